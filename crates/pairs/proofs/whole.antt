@@ -1,0 +1,2 @@
+-- What the proofs of src/whole.rt use.
+pub mod Laws

@@ -1,0 +1,11 @@
+pub mod Backend
+pub mod Rules
+pub mod Tables
+pub mod Lookup
+pub mod Polynomial
+pub mod Reduction
+pub mod Fast
+pub mod Fallback
+pub mod Special
+pub mod Whole
+pub mod Powf
