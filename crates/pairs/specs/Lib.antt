@@ -1,3 +1,4 @@
 pub mod Bits
 pub mod Whole
+pub mod Root
 pub mod DoubleDouble

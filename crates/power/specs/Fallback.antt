@@ -1,5 +1,5 @@
 -- The power in pairs of doubles, where the fast path leaves its last bit open.
-use mathlib.Core.Bool.{Bool, cond, _&&_, _||_}
+use mathlib.Core.Bool.{Bool, cond, not, _||_}
 use Prim.Native.Nat.{ℕ, _+_, _-_, _*_, _/_, _%_, _^_}
 use lib.Bits.{bitAnd}
 use lib.Dec.{eqb, leb, ltb}
@@ -26,6 +26,9 @@ one = f64 0x3ff0_0000_0000_0000
 abbrev pub isNan : Float → Bool
 isNan x = Ieee.ne x x
 
+abbrev pub eitherNan : Float → Float → Bool
+eitherNan a b = isNan a || isNan b
+
 -- the second reduction's index: the whole number nearest to 2^14 (dx + 2^-8)
 unfoldable pub place : Scalar → Float → ℕ
 place m dx = Ieee.toUnsigned 64 (m .round (m .fma dx (f64 0x40d0_0000_0000_0000) (f64 0x4050_0000_0000_0000)))
@@ -40,9 +43,12 @@ logPoly m x =
     (fromBits 0x3c7c_e04b_5140_d867 0x3fde_c709_dc3a_03fd) (fromBits 0x3c71_37b4_7e63_5be5 0xbfd7_1547_652b_82fb)
     (fromBits 0xbc5b_5a30_b3bd_b318 0x3fd2_776c_516a_92a2) (fromBits 0x3c62_d2fb_d081_e657 0xbfce_c70a_f192_9ca6)
 
+abbrev pub largerExponent : Float → Float → Bool
+largerExponent a b = leb (exponentField b) (exponentField a)
+
 -- a + b, the one of the larger exponent first
 abbrev pub orderedAdd : DoubleDouble → DoubleDouble → DoubleDouble
-orderedAdd a b = cond (leb (exponentField (b .hi)) (exponentField (a .hi))) (add a b) (add b a)
+orderedAdd a b = cond (largerExponent (a .hi) (b .hi)) (add a b) (add b a)
 
 -- log2 (1 + dx2), and the part of log2 x that the first path's high part leaves out, but for that
 unfoldable pub logLow : Arithmetic → Float → ℕ → DoubleDouble
@@ -80,9 +86,8 @@ nudged hi lo =
 unfoldable pub settled : DoubleDouble → Float
 settled r =
     cond (isNan (r .hi)) nan
-    (cond (eqb (bitAnd (Ieee.toBits binary64 (r .hi)) 0xfff_ffff) 0 && Ieee.ne (r .lo) zero)
-    (cond (isNan (r .lo)) nan (nudged (r .hi) (r .lo)))
-    (r .hi))
+    (cond (not (eqb (bitAnd (Ieee.toBits binary64 (r .hi)) 0xfff_ffff) 0) || Ieee.eq (r .lo) zero) (r .hi)
+    (cond (isNan (r .lo)) nan (nudged (r .hi) (r .lo))))
 
 -- e 2^(x / 64), with the pair e
 unfoldable pub scaled : Products → DoubleDouble → DoubleDouble → Float
@@ -94,14 +99,14 @@ scaled m e x =
 unfoldable pub finished : Products → Doubt → DoubleDouble → Float
 finished m d log =
     let prod = m .quick-mult-f64 log (d .y6) in
-    cond (isNan (prod .hi) || isNan (d .high)) nan (scaled m (scalePair (d .count)) (orderedAdd prod (pair zero (d .high))))
+    cond (eitherNan (prod .hi) (d .high)) nan (scaled m (scalePair (d .count)) (orderedAdd prod (pair zero (d .high))))
 
 unfoldable pub powfDd : Arithmetic → Doubt → Float
 powfDd m d =
     let i = place (m .scalar) (d .reduced .dx) in
     let low = logLow m (d .reduced .dx) i in
     let mid = logMid (d .reduced .index) i in
-    cond (isNan (mid .hi) || isNan (low .hi)) nan (finished (m .products) d (orderedAdd mid low))
+    cond (eitherNan (mid .hi) (low .hi)) nan (finished (m .products) d (orderedAdd mid low))
 
 unfoldable pub fallback : Arithmetic → Doubt → Float
 fallback m d = nearestIn binary32 (powfDd m d)

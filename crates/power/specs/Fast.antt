@@ -8,7 +8,7 @@ use Rattle.std.specs.Floats.{nearestIn, withSign}
 use Rattle.power.specs.Backend.{Scalar}
 use Rattle.power.specs.Lookup.{f64, log2R, log2RTd, exp2Mid}
 use Rattle.power.specs.Polynomial.{six, onF64}
-use Rattle.power.specs.Reduction.{f32, base, reduce, Placed}
+use Rattle.power.specs.Reduction.{f32, normalize, reduce, Placed}
 use Rattle.power.specs.declared.reduction.Reduced.{Reduced}
 use Rattle.power.specs.declared.fast.Doubt.{Doubt}
 use Rattle.power.specs.declared.fast.Outcome.{Outcome}
@@ -77,7 +77,7 @@ tested err r d =
 
 unfoldable pub fast : Scalar → Float → Float → Outcome
 fast m x y =
-    let r = reduce m (base x) in
+    let r = reduce m (normalize x) in
     let y6 = y64 y in
     let h = m .round (times (log m r) y6) in
     let high = restHigh m r y6 h in

@@ -9,7 +9,7 @@ use Rattle.power.specs.Backend.{Scalar}
 use Rattle.power.specs.Rules.{Is}
 use Rattle.power.specs.Lookup.{f64, rangeReduction}
 use Rattle.power.specs.Polynomial.{six, onF64}
-use Rattle.power.specs.declared.reduction.Base.{Base}
+use Rattle.power.specs.declared.reduction.Scaled.{Scaled}
 use Rattle.power.specs.declared.reduction.Reduced.{Reduced}
 
 -- the f32 of a bit pattern
@@ -17,13 +17,13 @@ abbrev pub f32 : ℕ → Float
 f32 = Ieee.ofBits binary32
 
 -- the bits of x and what its exponent field exceeds the exponent by; a subnormal x is scaled by 2^64
-unfoldable pub base : Float → Base
-base x =
+unfoldable pub normalize : Float → Scaled
+normalize x =
     cond (Ieee.lt x (f32 0x0080_0000))
     (record { bits = Ieee.toBits binary32 (Ieee.mul binary32 x (f32 0x5f80_0000)); bias = f64 0x4067_e000_0000_0000 })
     (record { bits = Ieee.toBits binary32 x; bias = f64 0x405f_c000_0000_0000 })
 
-abbrev pub exponent : Base → Float
+abbrev pub exponent : Scaled → Float
 exponent b = Ieee.sub binary64 (Ieee.ofInt binary64 (pos (bitAnd (b .bits / 2 ^ 23) 0xff))) (b .bias)
 
 -- the top seven bits of the fraction
@@ -46,7 +46,7 @@ logPoly m x =
     six (onF64 m) x (f64 0x3ff7_1547_652b_82fe) (f64 0xbfe7_1547_652b_7a07) (f64 0x3fde_c709_dc45_8db1)
     (f64 0xbfd7_1547_9c22_66c9) (f64 0x3fd2_776a_e1dd_f8f0) (f64 0xbfce_7b21_7887_0157)
 
-unfoldable pub reduce : Scalar → Base → Reduced
+unfoldable pub reduce : Scalar → Scaled → Reduced
 reduce m b =
     let d = dx m (b .bits) in
     record { index = index (b .bits); exponent = exponent b; dx = d; p = logPoly m d }

@@ -1,0 +1,3 @@
+-- What the proofs of src/root.rt use.
+pub mod Laws
+pub mod Values
