@@ -5,7 +5,7 @@ use mathlib.Core.Bool.{Bool, true, false, cond}
 use Prim.Native.Nat.{ℕ, zero, suc, _+_, _-_, _*_, _/_, _%_, _^_, _≤_, _<_}
 use native.Mathlib.Nat.{eq-or-lt-of-le, lt-of-lt-of-le, le-trans, eq-zero-or-pos, mul-comm, mul-pos, mul-le-mul-right, mul-div-cancel, mod-lt, mod-eq-of-lt, add-mod-left, zero-add, zero-lt-suc, pow-succ', mod-mod-of-dvd, dvd-mul-right, div-add-mod', div-lt-iff-lt-mul, div-eq-of-lt-le}
 use native.Mathlib.Omega.{arith}
-use borrow.Author.Tests.{lt-ltb, le-ltb, le-leb, lt-leb, eq-eqb, ne-eqb, eqb-true}
+use borrow.Author.Tests.{lt-ltb, le-ltb, le-leb, lt-leb, eq-eqb, ne-eqb}
 use lib.Arith.{digits-div, digits-mod}
 use lib.Dec.{T, ltb, leb, eqb}
 use lib.Pow.{pow-add, pow-pos, pow-mono, shl-lt}
@@ -92,6 +92,27 @@ read f b h =
 pub value : (f : Format) (x : Float) → T (fits f x) → toBits f x % top f < ones f * hid f → HasValue x (leb (top f) (toBits f x)) (steps f (toBits f x % top f)) (2 ^ low f)
 value f x X h = subst (λ (y : Float). HasValue y (leb (top f) (toBits f x)) (steps f (toBits f x % top f)) (2 ^ low f)) (ofBits-toBits f x X) (read f (toBits f x) h)
 
+signed-mod : (s : Bool) (c b : ℕ) → b < c → (cond s c 0 + b) % c ≡ b
+signed-mod true c b h = add-mod-left c b ∙ mod-eq-of-lt h
+signed-mod false c b h = ap (λ (x : ℕ). x % c) (zero-add b) ∙ mod-eq-of-lt h
+
+signed-leb : (s : Bool) (c b : ℕ) → b < c → leb c (cond s c 0 + b) ≡ s
+signed-leb true c b h = le-leb c (c + b) (omega arith)
+signed-leb false c b h = lt-leb c (0 + b) (omega arith)
+
+below-top : (h o b : ℕ) → b < o * h → b < h * suc o
+below-top h o b l = omega (arith, mul-comm o h)
+
+-- the same of a sign and the rest of a pattern
+pub read-signed : (f : Format) (s : Bool) (b : ℕ) → b < ones f * hid f → HasValue (ofBits f (cond s (top f) 0 + b)) s (steps f b) (2 ^ low f)
+read-signed f s b h =
+    let c = cond s (top f) 0 + b in
+    let u : b < top f = below-top (hid f) (ones f) b h in
+    let p : c % top f ≡ b = signed-mod s (top f) b u in
+    subst (λ (a : ℕ). HasValue (ofBits f c) s (steps f a) (2 ^ low f)) p
+    (subst (λ (t : Bool). HasValue (ofBits f c) t (steps f (c % top f)) (2 ^ low f)) (signed-leb s (top f) b u)
+    (read f c (subst (λ (a : ℕ). a < ones f * hid f) (sym p) h)))
+
 at-ones : (f : Format) (s : Bool) (x t : ℕ) → x ≡ ones f → ofFields f s x t ≡ cond (eqb t 0) (inf s) nan
 unfolding ofFields
 at-ones f s zero t e = absurd (omega arith)
@@ -124,17 +145,6 @@ twice : (f : Format) → 2 ^ prec f ≡ 2 * hid f
 twice binary32 = refl
 twice binary64 = refl
 
-signed-mod : (s : Bool) (c b : ℕ) → b < c → (cond s c 0 + b) % c ≡ b
-signed-mod true c b h = add-mod-left c b ∙ mod-eq-of-lt h
-signed-mod false c b h = ap (λ (x : ℕ). x % c) (zero-add b) ∙ mod-eq-of-lt h
-
-signed-leb : (s : Bool) (c b : ℕ) → b < c → leb c (cond s c 0 + b) ≡ s
-signed-leb true c b h = le-leb c (c + b) (omega arith)
-signed-leb false c b h = lt-leb c (0 + b) (omega arith)
-
-below-top : (h o b : ℕ) → b < o * h → b < h * suc o
-below-top h o b l = omega (arith, mul-comm o h)
-
 below-ones : (h o m k j : ℕ) → m < j * h → k + j ≤ o → k * h + m < o * h
 below-ones h o m k j u l = omega (arith, mul-le-mul-right h l)
 
@@ -147,12 +157,8 @@ units-fits f s m k h l =
 finite : (f : Format) (s : Bool) (b m k : ℕ) → b < ones f * hid f → m ≤ 2 * hid f → steps f b ≡ m * 2 ^ k → m * 2 ^ k < 2 ^ (low f + suc (emax f)) → ofBits f (cond s (top f) 0 + b) ≡ units f s m k
 finite f s b m k B M e l =
     let c = cond s (top f) 0 + b in
-    let u : b < top f = below-top (hid f) (ones f) b B in
-    let p : c % top f ≡ b = signed-mod s (top f) b u in
     same-value f (ofBits f c) (units f s m k) s (m * 2 ^ k) (ofBits-fits f c) (units-fits f s m k M l)
-    (subst (λ (a : ℕ). HasValue (ofBits f c) s a (2 ^ low f)) (ap (steps f) p ∙ e)
-    (subst (λ (t : Bool). HasValue (ofBits f c) t (steps f (c % top f)) (2 ^ low f)) (signed-leb s (top f) b u)
-    (read f c (subst (λ (a : ℕ). a < ones f * hid f) (sym p) B))))
+    (subst (λ (a : ℕ). HasValue (ofBits f c) s a (2 ^ low f)) e (read-signed f s b B))
     (units-val f s m k l)
 
 -- m 2^k smallest values are finite

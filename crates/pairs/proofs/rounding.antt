@@ -1,0 +1,2 @@
+-- What the proofs of src/rounding.rt use.
+pub mod Laws
