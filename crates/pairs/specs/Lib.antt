@@ -1,4 +1,5 @@
 pub mod Bits
 pub mod Whole
+pub mod Narrowing
 pub mod Root
 pub mod DoubleDouble

@@ -1,0 +1,2 @@
+-- What the proofs of src/narrowing.rt use.
+pub mod Laws
