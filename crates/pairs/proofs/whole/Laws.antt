@@ -103,7 +103,7 @@ tests-odd s (suc m) e o = (integerf-whole s m e, odd-odd s m e)
 -- ---- trailing zeros
 
 -- q with its trailing zeros cut off is odd
-cut-odd : (d q : ℕ) → 0 < q → q < 2 ^ d → q / 2 ^ trailingZeros d q % 2 ≡ 1
+pub cut-odd : (d q : ℕ) → 0 < q → q < 2 ^ d → q / 2 ^ trailingZeros d q % 2 ≡ 1
 unfolding trailingZeros
 cut-odd zero q h k = absurd (omega arith)
 cut-odd (suc d) q h k =

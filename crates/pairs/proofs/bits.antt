@@ -1,0 +1,2 @@
+-- What the proofs of src/bits.rt use.
+pub mod Laws
