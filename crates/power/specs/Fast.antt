@@ -45,7 +45,7 @@ clamped h =
 abbrev pub count : Float → ℕ
 count h =
     let c = clamped h in
-    let n = Ieee.toUnsigned 64 (withSign false c) in
+    let n = Ieee.toUnsigned 32 (withSign false c) in
     cond (Ieee.lt c (f64 0)) (65536 - n) (65536 + n)
 
 -- the exponent field of 2^floor(h / 64), in place, for a count k = 2^16 + h: it is added to a pattern, modulo 2^64

@@ -9,3 +9,4 @@ pub mod Fallback
 pub mod Special
 pub mod Whole
 pub mod Powf
+pub mod Limits

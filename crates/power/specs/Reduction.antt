@@ -1,6 +1,7 @@
 -- The first reduction of x, a positive f32: x = 2^exponent m, and m r = 1 + dx for a table's r.
-use mathlib.Core.Bool.{Bool, cond}
-use Prim.Native.Nat.{ℕ, _+_, _*_, _/_, _^_, _≤_, _<_}
+use mathlib.Core.Bool.{Bool, false, cond}
+use mathlib.Core.Path.{_≡_}
+use Prim.Native.Nat.{ℕ, _+_, _-_, _*_, _/_, _^_, _≤_, _<_}
 use lib.Bits.{bitAnd, bitOr}
 use lib.IntN.{pos}
 use lib.Ieee as Ieee
@@ -50,6 +51,20 @@ unfoldable pub reduce : Scalar → Scaled → Reduced
 reduce m b =
     let d = dx m (b .bits) in
     record { index = index (b .bits); exponent = exponent b; dx = d; p = logPoly m d }
+
+-- r = size / 256 is from 1/2 to 1, of at most eight significant bits, and m r - 1 lies from -2^-8 to below 2^-7,
+-- for m = (2^23 + t) / 2^23; so 2^31 m r is (2^23 + t) size
+pub record Reduces (r : Float) (t : ℕ) : Type 0 where
+  pub size : ℕ
+  pub is : Is r false size 256
+  pub size-least : 128 ≤ size
+  pub size-most : size ≤ 256
+  pub product-least : 2 ^ 31 - 2 ^ 23 ≤ (2 ^ 23 + t) * size
+  pub product-most : (2 ^ 23 + t) * size < 2 ^ 31 + 2 ^ 24
+
+-- the table's rule: each m from 1 to below 2 is so reduced by the entry at the top seven of its 23 fraction bits t
+abbrev pub ReductionRule : Type 0
+ReductionRule = (i t : ℕ) → i < 128 → t < 2 ^ 23 → t / 2 ^ 16 ≡ i → Reduces (rangeReduction i) t
 
 -- x is a value of f64 from -2^-8 to below 2^-7, and a multiple of 2^-31
 pub record Small (x : Float) : Type 0 where

@@ -1,9 +1,10 @@
 -- The answers at zeros and infinities.
 use mathlib.Core.Bool.{Bool, true, false, cond, Bool·beq, _&&_, _||_}
 use Prim.Native.Nat.{ℕ}
+use lib.Dec.{eqb}
 use lib.Ieee as Ieee
 use lib.Ieee.{Float, binary32, neg}
-use Rattle.std.specs.Floats.{withSign, negative}
+use Rattle.std.specs.Floats.{withSign}
 use Rattle.power.specs.Backend.{Scalar}
 use Rattle.power.specs.Reduction.{f32}
 
@@ -33,6 +34,9 @@ infiniteBase m x y = signed (Ieee.lt x zero && m .odd-integerf y) (cond (Ieee.lt
 abbrev pub keepsSign : Scalar → Float → Bool
 keepsSign m y = Ieee.eq y one || (Ieee.lt (f32 0x4000_0000) y && Ieee.lt y (f32 0x41c0_0000) && m .odd-integerf y)
 
+abbrev pub negativeZero : Float → Bool
+negativeZero x = eqb (Ieee.toBits binary32 x) 0x8000_0000
+
 -- x is a zero and y is finite
 abbrev pub zeroBase : Scalar → Float → Float → Float
-zeroBase m x y = cond (Ieee.lt y zero) infinity (signed (negative x && keepsSign m y) zero)
+zeroBase m x y = cond (Ieee.lt y zero) infinity (signed (negativeZero x && keepsSign m y) zero)

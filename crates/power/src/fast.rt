@@ -78,8 +78,8 @@ fn count(h: f64) -> u64
     ensures { λ r. ⌜ r ≡ Fast.count h ⌝ }
 {
     let c = clamped(h);
-    let n = std::num::saturating_f64_to_u64(c.abs());
-    if c < 0.0 { 65536u64.saturating_sub(n) } else { 65536u64.wrapping_add(n) }
+    let n = std::num::saturating_f64_to_u32(c.abs()) as u64;
+    if c < 0.0 { 65536u64.saturating_sub(n) } else { 65536 + n }
 }
 
 // The bits that 2^floor(h/64) adds to a pattern's exponent.
@@ -127,7 +127,9 @@ fn lower(err: u64, r: f64) -> f32
 
 // The rounding test: r is sure where its neighbours round alike.
 fn tested(err: u64, r: f64, doubt: Doubt) -> Outcome
-    ensures { λ s. ⌜ s ≡ Fast.tested err r doubt ⌝ }
+    requires { ⌜ Placed (doubt .reduced) ⌝ }
+    ensures value { λ s. ⌜ s ≡ Fast.tested err r doubt ⌝ }
+    ensures workable { λ s. ⌜ Fast.Workable s ⌝ }
 {
     if r != r {
         return Outcome::Sure(not_a_number());

@@ -2,6 +2,7 @@
 pub mod backend;
 mod fallback;
 mod fast;
+pub mod limits;
 mod lookup;
 mod polynomial;
 pub mod portable;

@@ -45,5 +45,6 @@ pub fn zero_base<B: PowfBackend>(x: f32, y: f32, backend: &B) -> f32
     if y < 0.0 {
         return f32::INFINITY;
     }
-    signed(x.is_sign_negative() && keeps_sign(y, backend), 0.0)
+    let negative = std::num::f32_to_bits_with_nan(x) == 0x8000_0000;
+    signed(negative && keeps_sign(y, backend), 0.0)
 }

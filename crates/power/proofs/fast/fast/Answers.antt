@@ -8,4 +8,4 @@ returns-then-h g c = search needs
 
 pub returns : need.returns
 unfolding fast
-returns g c = search needs
+returns g c = record { value = search needs; workable = c .tested .ensures .workable }
