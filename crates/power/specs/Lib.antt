@@ -10,3 +10,6 @@ pub mod Special
 pub mod Whole
 pub mod Powf
 pub mod Limits
+pub mod SpecialCases
+pub mod ExactCases
+pub mod Opposites

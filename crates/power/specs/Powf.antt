@@ -7,7 +7,7 @@ use Rattle.std.specs.Floats.{infinite, sqrt}
 use Rattle.power.specs.Backend.{Scalar, Arithmetic}
 use Rattle.power.specs.Reduction.{f32}
 use Rattle.power.specs.Special.{zero, one, signed, infiniteExponent, infiniteBase, zeroBase}
-use Rattle.power.specs.Whole.{product, multiplies}
+use Rattle.power.specs.Whole.{wholePower, multiplies}
 use Rattle.power.specs.Fast.{fast}
 use Rattle.power.specs.Fallback.{fallback}
 use Rattle.power.specs.declared.fast.Outcome.{Outcome}
@@ -33,7 +33,7 @@ magnitude m x y =
     cond (Ieee.eq y one) x
     (cond (Ieee.eq y (f32 0x4000_0000)) (Ieee.mul binary32 x x)
     (cond (Ieee.eq y (f32 0x3f00_0000)) (sqrt binary32 x)
-    (cond (multiplies (m .scalar) x y) (product x (Ieee.toUnsigned 32 y))
+    (cond (multiplies (m .scalar) x y) (wholePower x y)
     (general m x y))))
 
 -- x and y are finite and not zero

@@ -28,3 +28,6 @@ short x n = leb (significantBits x * n) (25 + 2 * n)
 
 abbrev pub multiplies : Scalar → Float → Float → Bool
 multiplies m x y = smallWhole m y && short x (Ieee.toUnsigned 32 y)
+
+abbrev pub wholePower : Float → Float → Float
+wholePower x y = product x (Ieee.toUnsigned 32 y)

@@ -11,7 +11,7 @@ use crate::special::infinite_exponent;
 use crate::special::signed;
 use crate::special::zero_base;
 use crate::whole::multiplies;
-use crate::whole::product;
+use crate::whole::whole_power;
 use pairs::root::sqrtf;
 
 fn bounded(y: f32) -> f32
@@ -46,7 +46,7 @@ fn magnitude<B: PowfBackend>(x: f32, y: f32, backend: &B) -> f32
     } else if y == 0.5 {
         sqrtf(x)
     } else if multiplies(x, y, backend) {
-        product(x, std::num::saturating_f32_to_u32(y))
+        whole_power(x, y)
     } else {
         general(x, y, backend)
     }

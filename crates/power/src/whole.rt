@@ -6,7 +6,7 @@ use pairs::bits::significant_bits;
 use pairs::narrowing::narrow;
 
 // The product of n factors x.
-pub fn product(x: f32, n: u32) -> f32
+fn product(x: f32, n: u32) -> f32
     ensures { λ r. ⌜ r ≡ Whole.product x n ⌝ }
 {
     let x_d = std::num::f32_to_f64_with_nan(x);
@@ -35,4 +35,11 @@ pub fn multiplies<B: PowfBackend>(x: f32, y: f32, backend: &B) -> bool
     ensures { λ r. ⌜ r ≡ Whole.multiplies (B·PowfBackend .meaning (now (backend .entry)) .scalar) x y ⌝ }
 {
     small_whole(y, backend) && short(x, std::num::saturating_f32_to_u32(y))
+}
+
+// x^y by products.
+pub fn whole_power(x: f32, y: f32) -> f32
+    ensures { λ r. ⌜ r ≡ Whole.wholePower x y ⌝ }
+{
+    product(x, std::num::saturating_f32_to_u32(y))
 }
