@@ -1,7 +1,7 @@
 -- `roundAway` of a number is the nearest whole number, halves away from zero. Assumes nothing.
 use mathlib.Core.Path.{_≡_, refl, subst}
 use mathlib.Core.Bool.{Bool, true, false}
-use Prim.Native.Nat.{ℕ, suc, _+_, _*_, _^_, _≤_, _<_}
+use Prim.Native.Nat.{ℕ, suc, _*_, _^_, _≤_, _<_}
 use native.Mathlib.Nat.{div-le-of-le-mul}
 use native.Mathlib.Omega.{arith}
 use lib.Dec.{T}
@@ -13,7 +13,7 @@ use lib.Ieee.Exact.{HasValue}
 use lib.Ieee.Back.{round-whole}
 use Rattle.std.specs.Floats.{halfUp, wholeBy, roundAway}
 use Rattle.power.specs.Rules.{Is, Number, sign, num, den}
-use Rattle.power.proofs.Values.{Bounds, bounds, rounds, value→is}
+use Rattle.power.proofs.Values.{bounds, rounds, value→is}
 
 whole-stays : (n : ℕ) → n ≡ halfUp n 1
 whole-stays n = omega arith

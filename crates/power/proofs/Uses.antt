@@ -4,7 +4,8 @@ use mathlib.Core.Path.{_≡_, sym, ap, _∙_, subst}
 use mathlib.Core.Bool.{Bool}
 use mathlib.Core.Logic.{_⊎_, inl, inr, ⊎-elim}
 use Prim.Native.Nat.{ℕ, _+_, _-_, _*_, _^_, _≤_, _<_}
-use native.Mathlib.Nat.{le-trans, le-of-eq, lt-of-lt-of-le, mul-assoc, mul-comm, mul-left-comm, mul-one, one-mul, zero-mul, mul-pos, mul-le-mul-right, mul-le-mul-left, eq-of-mul-eq-mul-right, eq-zero-or-pos}
+use native.Mathlib.Nat.{le-trans, le-of-eq, lt-of-lt-of-le, mul-assoc, mul-comm, mul-left-comm, mul-one, one-mul, zero-mul}
+use native.Mathlib.Nat.{mul-pos, mul-le-mul-right, mul-le-mul-left, eq-of-mul-eq-mul-right, eq-zero-or-pos}
 use native.Mathlib.Omega.{arith}
 use lib.Pow.{pow-add, pow-pos, pow-mono, shl-lt}
 use lib.Ieee.{Float, binary64, unlike, round}

@@ -1,0 +1,197 @@
+-- Products of pairs with zeros and with 1. Assumes nothing.
+use mathlib.Core.Path.{_≡_, refl, sym, _∙_, subst}
+use mathlib.Core.Bool.{false}
+use mathlib.Core.Logic.{inl}
+use native.Mathlib.Omega.{arith}
+use lib.IntN.{pos}
+use lib.Ieee.{Float, fin, binary64, round, add, sub, mul, neg, sum, ofBits, fits}
+use lib.Ieee.Fits.{add-fits, sub-fits}
+use Rattle.pairs.specs.declared.double_double.DoubleDouble.{DoubleDouble}
+use Rattle.pairs.specs.DoubleDouble.{splitter, split, exactMult, quickMult, quickMultF64}
+use Rattle.power.specs.Rules.{Number, Zero, Alike, Within, WithinPair, ZeroPair, AlikePair, one}
+use Rattle.power.proofs.Unique.{alike-trans, alike-number}
+use Rattle.power.proofs.Zeros.{unit, IsZero, mul-zero-left, mul-zero-right, add-zeros, sub-zeros, add-zero-left, mul-one-right, neg-number, sub-anti, cancels}
+use Rattle.power.proofs.Bounded.{Bounded, mul-bounded, add-bounded, sub-bounded, bounded-more, within-bounded}
+
+abbrev plus : Float → Float → Float
+plus = add binary64
+
+abbrev minus : Float → Float → Float
+minus = sub binary64
+
+abbrev times : Float → Float → Float
+times = mul binary64
+
+-- the low part of 1
+abbrev nought : Float
+nought = fin false 0 (pos 0)
+
+-- both parts of a pair are zero, and both are numbers
+abbrev Zeros : DoubleDouble → Type 0
+Zeros p = IsZero (p .lo) × IsZero (p .hi)
+
+abbrev Numbers : DoubleDouble → Type 0
+Numbers p = Number (p .lo) × Number (p .hi)
+
+-- ---- the parts of a split number
+
+splitter-bounded : Bounded 28 splitter
+unfolding ofBits fits
+splitter-bounded = (tt, omega arith)
+
+-- zeros for a zero
+split-zero : (a : Float) → IsZero a → Zeros (split a)
+unfolding split
+split-zero a Z =
+    let t = mul-zero-right splitter a (splitter-bounded .0) Z in
+    let hi = add-zeros (times splitter a) (minus a (times splitter a)) t (sub-zeros a (times splitter a) Z t) in
+    (sub-zeros a (plus (times splitter a) (minus a (times splitter a))) Z hi, hi)
+
+-- no part overflows
+split-numbers : (a : Float) → Bounded 400 a → Numbers (split a)
+unfolding split
+split-numbers a A =
+    let t = times splitter a in
+    let T1 : Bounded 428 t = mul-bounded 28 400 splitter a (omega arith) splitter-bounded A in
+    let D : Bounded 429 (minus a t) = sub-bounded 428 a t (omega arith) (bounded-more 400 428 a (omega arith) A) T1 in
+    let H : Bounded 430 (plus t (minus a t)) = add-bounded 429 t (minus a t) (omega arith) (bounded-more 428 429 t (omega arith) T1) D in
+    (sub-bounded 430 a (plus t (minus a t)) (omega arith) (bounded-more 400 430 a (omega arith) A) H .0, H .0)
+
+-- ---- zeros
+
+-- the low part of a product, from the parts s of a and t of b and from h = a b
+abbrev lowPart : DoubleDouble → DoubleDouble → Float → Float
+lowPart s t h =
+    plus (times (s .lo) (t .lo))
+    (plus (times (s .lo) (t .hi)) (plus (times (s .hi) (t .lo)) (minus (times (s .hi) (t .hi)) h)))
+
+-- a zero, if the four products of the parts and h are
+low-zero : (s t : DoubleDouble) (h : Float) → IsZero (times (s .lo) (t .lo)) → IsZero (times (s .lo) (t .hi)) → IsZero (times (s .hi) (t .lo)) → IsZero (times (s .hi) (t .hi))
+    → IsZero h → IsZero (lowPart s t h)
+low-zero s t h ll lh hl hh H =
+    let t1 = minus (times (s .hi) (t .hi)) h in
+    let t2 = plus (times (s .hi) (t .lo)) t1 in
+    let t3 = plus (times (s .lo) (t .hi)) t2 in
+    let z1 = sub-zeros (times (s .hi) (t .hi)) h hh H in
+    let z2 = add-zeros (times (s .hi) (t .lo)) t1 hl z1 in
+    let z3 = add-zeros (times (s .lo) (t .hi)) t2 lh z2 in
+    add-zeros (times (s .lo) (t .lo)) t3 ll z3
+
+exact-zero-left : (a b : Float) → IsZero a → Bounded 400 b → Zeros (exactMult a b)
+unfolding exactMult
+exact-zero-left a b A B =
+    let S = split-zero a A in
+    let N = split-numbers b B in
+    let s = split a in
+    let t = split b in
+    let H = mul-zero-left a b A (B .0) in
+    let low = low-zero s t (times a b) (mul-zero-left (s .lo) (t .lo) (S .0) (N .0)) (mul-zero-left (s .lo) (t .hi) (S .0) (N .1))
+        (mul-zero-left (s .hi) (t .lo) (S .1) (N .0)) (mul-zero-left (s .hi) (t .hi) (S .1) (N .1)) H in
+    (low, H)
+
+exact-zero-right : (a b : Float) → Bounded 400 a → IsZero b → Zeros (exactMult a b)
+unfolding exactMult
+exact-zero-right a b A B =
+    let N = split-numbers a A in
+    let S = split-zero b B in
+    let s = split a in
+    let t = split b in
+    let H = mul-zero-right a b (A .0) B in
+    let low = low-zero s t (times a b) (mul-zero-right (s .lo) (t .lo) (N .0) (S .0)) (mul-zero-right (s .lo) (t .hi) (N .0) (S .1))
+        (mul-zero-right (s .hi) (t .lo) (N .1) (S .0)) (mul-zero-right (s .hi) (t .hi) (N .1) (S .1)) H in
+    (low, H)
+
+pub quick-zero-left : (a b : DoubleDouble) → WithinPair a → WithinPair b → ZeroPair a → ZeroPair (quickMult a b)
+unfolding quickMult
+quick-zero-left a b A B Z =
+    let lo : IsZero (a .lo) = (A .0 .0, Z .0) in
+    let hi : IsZero (a .hi) = (A .1 .0, Z .1) in
+    let c = exact-zero-left (a .hi) (b .hi) hi (within-bounded 400 (b .hi) (B .1)) in
+    let x = times (a .hi) (b .lo) in
+    let y = times (a .lo) (b .hi) in
+    let rest = add-zeros x y (mul-zero-left (a .hi) (b .lo) hi (B .0 .0)) (mul-zero-left (a .lo) (b .hi) lo (B .1 .0)) in
+    (add-zeros (exactMult (a .hi) (b .hi) .lo) (plus x y) (c .0) rest .1, c .1 .1)
+
+pub quick-zero-right : (a b : DoubleDouble) → WithinPair a → WithinPair b → ZeroPair b → ZeroPair (quickMult a b)
+unfolding quickMult
+quick-zero-right a b A B Z =
+    let lo : IsZero (b .lo) = (B .0 .0, Z .0) in
+    let hi : IsZero (b .hi) = (B .1 .0, Z .1) in
+    let c = exact-zero-right (a .hi) (b .hi) (within-bounded 400 (a .hi) (A .1)) hi in
+    let x = times (a .hi) (b .lo) in
+    let y = times (a .lo) (b .hi) in
+    let rest = add-zeros x y (mul-zero-right (a .hi) (b .lo) (A .1 .0) lo) (mul-zero-right (a .lo) (b .hi) (A .0 .0) hi) in
+    (add-zeros (exactMult (a .hi) (b .hi) .lo) (plus x y) (c .0) rest .1, c .1 .1)
+
+pub quick-zero-left-f64 : (a : DoubleDouble) (b : Float) → WithinPair a → Within 400 b → ZeroPair a → ZeroPair (quickMultF64 a b)
+unfolding quickMultF64
+quick-zero-left-f64 a b A B Z =
+    let c = exact-zero-left (a .hi) b (A .1 .0, Z .1) (within-bounded 400 b B) in
+    let rest = mul-zero-left (a .lo) b (A .0 .0, Z .0) (B .0) in
+    (add-zeros (exactMult (a .hi) b .lo) (times (a .lo) b) (c .0) rest .1, c .1 .1)
+
+pub quick-zero-right-f64 : (a : DoubleDouble) (b : Float) → WithinPair a → Within 400 b → Zero b → ZeroPair (quickMultF64 a b)
+unfolding quickMultF64
+quick-zero-right-f64 a b A B Z =
+    let c = exact-zero-right (a .hi) b (within-bounded 400 (a .hi) (A .1)) (B .0, Z) in
+    let rest = mul-zero-right (a .lo) b (A .0 .0) (B .0, Z) in
+    (add-zeros (exactMult (a .hi) b .lo) (times (a .lo) b) (c .0) rest .1, c .1 .1)
+
+-- ---- 1
+
+one-unit : one ≡ unit
+unfolding ofBits
+one-unit = refl
+
+split-unit : split unit ≡ record { lo = nought; hi = unit }
+unfolding split mul add sub neg sum round ofBits
+split-unit = refl
+
+nought-zero : IsZero nought
+unfolding fits
+nought-zero = (tt, refl)
+
+-- s .hi - a and s .lo, which is a - s .hi, add up to nothing
+low-one : (a : Float) (s : DoubleDouble) → Number a → Numbers s → s .lo ≡ minus a (s .hi) → IsZero (lowPart s (record { lo = nought; hi = unit }) (times a unit))
+low-one a s N S e =
+    let z = nought in
+    let t1 = minus (times (s .hi) unit) (times a unit) in
+    let t2 = plus (times (s .hi) z) t1 in
+    let t1-is : t1 ≡ minus (s .hi) a = λ i. minus (mul-one-right (s .hi) (S .1) i) (mul-one-right a N i) in
+    let turned : Alike (minus (s .hi) a) (neg (s .lo)) = subst (λ (x : Float). Alike (minus (s .hi) a) (neg x)) (sym e) (sub-anti (s .hi) a (S .1) N) in
+    let first : Alike t1 (neg (s .lo)) = subst (λ (x : Float). Alike x (neg (s .lo))) (sym t1-is) turned in
+    let number : Number t1 = alike-number t1 (neg (s .lo)) (sub-fits binary64 (times (s .hi) unit) (times a unit)) (neg-number (s .lo) (S .0)) first in
+    let second : Alike t2 (neg (s .lo)) = alike-trans t2 t1 (neg (s .lo)) (add-zero-left (times (s .hi) z) t1 (mul-zero-right (s .hi) z (S .1) nought-zero) number) first in
+    let third : IsZero (plus (times (s .lo) unit) t2) = subst (λ (x : Float). IsZero (plus x t2)) (sym (mul-one-right (s .lo) (S .0))) (cancels (s .lo) t2 (S .0) second) in
+    add-zeros (times (s .lo) z) (plus (times (s .lo) unit) t2) (mul-zero-right (s .lo) z (S .0) nought-zero) third
+
+split-low : (a : Float) → split a .lo ≡ minus a (split a .hi)
+unfolding split
+split-low a = refl
+
+exact-one : (a : Float) → Bounded 400 a → IsZero (exactMult a unit .lo) × (exactMult a unit .hi ≡ a)
+unfolding exactMult
+exact-one a A = (
+  subst (λ (t : DoubleDouble). IsZero (lowPart (split a) t (times a unit))) (sym split-unit) (low-one a (split a) (A .0) (split-numbers a A) (split-low a)),
+  mul-one-right a (A .0),
+)
+
+-- 0 + y is y, and a number
+plus-zero : (x y : Float) → IsZero x → Number y → Number (plus x y) × Alike (plus x y) y
+plus-zero x y Z N = let h = add-zero-left x y Z N in (alike-number (plus x y) y (add-fits binary64 x y) N h, h)
+
+quick-unit : (a b : DoubleDouble) → WithinPair a → WithinPair b → Zero (b .lo) → b .hi ≡ unit → AlikePair (quickMult a b) a
+unfolding quickMult
+quick-unit a b A B Z e =
+    let c = exact-one (a .hi) (within-bounded 400 (a .hi) (A .1)) in
+    let x = times (a .hi) (b .lo) in
+    let rest = plus-zero x (a .lo) (mul-zero-right (a .hi) (b .lo) (A .1 .0) (B .0 .0, Z)) (A .0 .0) in
+    let low = plus-zero (exactMult (a .hi) unit .lo) (plus x (a .lo)) (c .0) (rest .0) in
+    let both = alike-trans (plus (exactMult (a .hi) unit .lo) (plus x (a .lo))) (plus x (a .lo)) (a .lo) (low .1) (rest .1) in
+    let at-unit : Alike (plus (exactMult (a .hi) unit .lo) (plus x (times (a .lo) unit))) (a .lo) =
+        subst (λ (y : Float). Alike (plus (exactMult (a .hi) unit .lo) (plus x y)) (a .lo)) (sym (mul-one-right (a .lo) (A .0 .0))) both in
+    (subst (λ (h : Float). Alike (plus (exactMult (a .hi) h .lo) (plus x (times (a .lo) h))) (a .lo)) (sym e) at-unit,
+    subst (λ (h : Float). Alike (exactMult (a .hi) h .hi) (a .hi)) (sym e) (inl (c .1)))
+
+pub quick-one-right : (a b : DoubleDouble) → WithinPair a → WithinPair b → Zero (b .lo) → b .hi ≡ one → AlikePair (quickMult a b) a
+quick-one-right a b A B Z e = quick-unit a b A B Z (e ∙ one-unit)
