@@ -101,6 +101,12 @@ def halfway(rng):
             yield x | SIGN, y
 
 
+def sign_of_the_fallback():
+    """Negative bases and odd exponents at which the reference's fallback and its power of -x differ."""
+    yield 0xBF45E3BF, 0x43390000
+    yield 0xBFC5E3BF, 0x43390000
+
+
 def range_borders(rng):
     for _ in range(90):
         x = pattern(math.exp(rng.uniform(-80, 80)))
@@ -150,7 +156,7 @@ def main():
     rng = random.Random(20261117)
     pairs = []
     seen = set()
-    for maker in (special_pairs(), loop_borders(rng), halfway(rng), range_borders(rng), negative_bases(rng), general(rng)):
+    for maker in (special_pairs(), loop_borders(rng), halfway(rng), sign_of_the_fallback(), range_borders(rng), negative_bases(rng), general(rng)):
         for x, y in maker:
             p = (quieted(x), quieted(y))
             if p not in seen:
