@@ -17,6 +17,10 @@ pub fn significant_bits(x: f32) -> u32
     if x_abs == 0 || x_abs >= 0x7f80_0000 {
         return 0;
     }
-    let digits = if x_abs < 0x80_0000 { x_abs } else { (x_abs & 0x7f_ffff) | 0x80_0000 };
+    let digits = if x_abs < 0x80_0000 {
+        x_abs
+    } else {
+        (x_abs & 0x7f_ffff) | 0x80_0000
+    };
     32 - digits.leading_zeros() - digits.trailing_zeros()
 }

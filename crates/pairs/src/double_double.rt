@@ -135,7 +135,12 @@ impl DoubleDouble {
         DoubleDouble::new(h.lo + p.lo, p.hi)
     }
 
-    pub fn quick_mul_add_fma<F: Fma>(a: DoubleDouble, b: DoubleDouble, c: DoubleDouble, fused: &F) -> DoubleDouble
+    pub fn quick_mul_add_fma<F: Fma>(
+        a: DoubleDouble,
+        b: DoubleDouble,
+        c: DoubleDouble,
+        fused: &F,
+    ) -> DoubleDouble
         ensures { λ r. ⌜ r ≡ Pairs.plusProduct (Pairs.quickMultFma (F·Fma .fused (now (fused .entry))) a b) c ⌝ }
     {
         let h = DoubleDouble::quick_mult_fma(a, b, fused);

@@ -58,7 +58,7 @@ pub round-bounded : (s : Bool) (n d k : ℕ) → 0 < d → k ≤ 1023 → n ≤ 
 round-bounded s n d k D top h =
     let l = low binary64 in
     let scaled : n * 2 ^ l ≤ 2 ^ (k + l) * d =
-        le-trans (mul-le-mul-right (2 ^ l) h) (le-of-eq (mul-right-comm (2 ^ k) d (2 ^ l) ∙ ap (λ (x : ℕ). x * d) (sym (pow-add 2 k l)))) in
+    le-trans (mul-le-mul-right (2 ^ l) h) (le-of-eq (mul-right-comm (2 ^ k) d (2 ^ l) ∙ ap (λ (x : ℕ). x * d) (sym (pow-add 2 k l)))) in
     let le : grid binary64 n d ≤ 2 ^ (k + l) = kept-le 53 (n * 2 ^ l) d (k + l) (omega arith) D scaled in
     let in-range : k + l < l + 1024 = omega arith in
     bounded-value (round binary64 s n d) s (grid binary64 n d) (2 ^ l) k (pow-pos l) (round-fits binary64 s n d)
@@ -102,7 +102,7 @@ add-bounded k (fin s m e) (inf u) t X Y = absurd (Y .0)
 add-bounded k (fin s m e) (fin u n d) t X Y =
     let first : m * up e * down d ≤ 2 ^ k * (down e * down d) = le-trans (mul-le-mul-right (down d) (X .1)) (le-of-eq (mul-assoc (2 ^ k) (down e) (down d))) in
     let second : n * up d * down e ≤ 2 ^ k * (down e * down d) =
-        le-trans (mul-le-mul-right (down e) (Y .1)) (le-of-eq (mul-assoc (2 ^ k) (down d) (down e) ∙ ap (λ (x : ℕ). 2 ^ k * x) (mul-comm (down d) (down e)))) in
+    le-trans (mul-le-mul-right (down e) (Y .1)) (le-of-eq (mul-assoc (2 ^ k) (down d) (down e) ∙ ap (λ (x : ℕ). 2 ^ k * x) (mul-comm (down d) (down e)))) in
     sum-bounded s u (m * up e * down d) (n * up d * down e) (down e * down d) k (mul-pos (down-pos e) (down-pos d)) t first second
 
 neg-bounded : (k : ℕ) (x : Float) → Bounded k x → Bounded k (neg x)

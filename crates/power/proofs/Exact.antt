@@ -29,6 +29,7 @@ sum-is-same y s t a b d D w = go (Bool·beq s t) (ltb a b) w
     last false e w u h =
         let z = none-left a b (ltb-false b a e) in
         turn-is (round binary64 (u && false) (a - b) d) (u && false) s (a - b) (a - b) d z z (round-is-same y (u && false) (a - b) d D (turn-is y s (u && false) (a - b) (a - b) d z z w))
+
     go : (p q : Bool) → cond p (Is y s (a + b) d) (cond q (Is y t (b - a) d) (Is y s (a - b) d))
         → cond p (Is (cond p (round binary64 s (a + b) d) (cond q (round binary64 t (b - a) d) (round binary64 (s && ltb b a) (a - b) d))) s (a + b) d)
         (cond q (Is (cond p (round binary64 s (a + b) d) (cond q (round binary64 t (b - a) d) (round binary64 (s && ltb b a) (a - b) d))) t (b - a) d)

@@ -86,7 +86,7 @@ exact-zero-left a b A B =
     let t = split b in
     let H = mul-zero-left a b A (B .0) in
     let low = low-zero s t (times a b) (mul-zero-left (s .lo) (t .lo) (S .0) (N .0)) (mul-zero-left (s .lo) (t .hi) (S .0) (N .1))
-        (mul-zero-left (s .hi) (t .lo) (S .1) (N .0)) (mul-zero-left (s .hi) (t .hi) (S .1) (N .1)) H in
+    (mul-zero-left (s .hi) (t .lo) (S .1) (N .0)) (mul-zero-left (s .hi) (t .hi) (S .1) (N .1)) H in
     (low, H)
 
 exact-zero-right : (a b : Float) → Bounded 400 a → IsZero b → Zeros (exactMult a b)
@@ -98,7 +98,7 @@ exact-zero-right a b A B =
     let t = split b in
     let H = mul-zero-right a b (A .0) B in
     let low = low-zero s t (times a b) (mul-zero-right (s .lo) (t .lo) (N .0) (S .0)) (mul-zero-right (s .lo) (t .hi) (N .0) (S .1))
-        (mul-zero-right (s .hi) (t .lo) (N .1) (S .0)) (mul-zero-right (s .hi) (t .hi) (N .1) (S .1)) H in
+    (mul-zero-right (s .hi) (t .lo) (N .1) (S .0)) (mul-zero-right (s .hi) (t .hi) (N .1) (S .1)) H in
     (low, H)
 
 pub quick-zero-left : (a b : DoubleDouble) → WithinPair a → WithinPair b → ZeroPair a → ZeroPair (quickMult a b)
@@ -189,9 +189,10 @@ quick-unit a b A B Z e =
     let low = plus-zero (exactMult (a .hi) unit .lo) (plus x (a .lo)) (c .0) (rest .0) in
     let both = alike-trans (plus (exactMult (a .hi) unit .lo) (plus x (a .lo))) (plus x (a .lo)) (a .lo) (low .1) (rest .1) in
     let at-unit : Alike (plus (exactMult (a .hi) unit .lo) (plus x (times (a .lo) unit))) (a .lo) =
-        subst (λ (y : Float). Alike (plus (exactMult (a .hi) unit .lo) (plus x y)) (a .lo)) (sym (mul-one-right (a .lo) (A .0 .0))) both in
-    (subst (λ (h : Float). Alike (plus (exactMult (a .hi) h .lo) (plus x (times (a .lo) h))) (a .lo)) (sym e) at-unit,
-    subst (λ (h : Float). Alike (exactMult (a .hi) h .hi) (a .hi)) (sym e) (inl (c .1)))
+    subst (λ (y : Float). Alike (plus (exactMult (a .hi) unit .lo) (plus x y)) (a .lo)) (sym (mul-one-right (a .lo) (A .0 .0))) both in (
+      subst (λ (h : Float). Alike (plus (exactMult (a .hi) h .lo) (plus x (times (a .lo) h))) (a .lo)) (sym e) at-unit,
+      subst (λ (h : Float). Alike (exactMult (a .hi) h .hi) (a .hi)) (sym e) (inl (c .1)),
+    )
 
 pub quick-one-right : (a b : DoubleDouble) → WithinPair a → WithinPair b → Zero (b .lo) → b .hi ≡ one → AlikePair (quickMult a b) a
 quick-one-right a b A B Z e = quick-unit a b A B Z (e ∙ one-unit)

@@ -87,7 +87,7 @@ reduction-rule i t h l e =
       size-least = leb→le 128 k (and-r (A && B) C t2);
       size-most = leb→le k 256 (and-r (A && B && C) D t3);
       product-least = between-low t i k (omega arith) (leb→le (2 ^ 31 - 2 ^ 23) ((2 ^ 23 + i * 2 ^ 16) * k) (and-r (A && B && C && D) E t4));
-      product-most = between-high t i k (omega arith) (ltb→lt ((2 ^ 23 + i * 2 ^ 16 + (2 ^ 16 - 1)) * k) (2 ^ 31 + 2 ^ 24) (and-r (A && B && C && D && E) F t5))
+      product-most = between-high t i k (omega arith) (ltb→lt ((2 ^ 23 + i * 2 ^ 16 + (2 ^ 16 - 1)) * k) (2 ^ 31 + 2 ^ 24) (and-r (A && B && C && D && E) F t5));
     }
 
 -- ---- the significand

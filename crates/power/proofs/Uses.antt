@@ -22,7 +22,7 @@ use Rattle.power.proofs.Values.{value→is, scale-is, scale-sum}
 pub dyadic : (s : Bool) (n j : ℕ) → n < 2 ^ 53 → j ≤ 1074 → Is (round binary64 s n (2 ^ j)) s n (2 ^ j)
 dyadic s n j h k =
     let e : n * 2 ^ 1074 ≡ n * 2 ^ (1074 - j) * 2 ^ j =
-        ap (λ (x : ℕ). n * 2 ^ x) (sym (back 1074 j k)) ∙ ap (λ (x : ℕ). n * x) (pow-add 2 (1074 - j) j) ∙ sym (mul-assoc n (2 ^ (1074 - j)) (2 ^ j)) in
+    ap (λ (x : ℕ). n * 2 ^ x) (sym (back 1074 j k)) ∙ ap (λ (x : ℕ). n * x) (pow-add 2 (1074 - j) j) ∙ sym (mul-assoc n (2 ^ (1074 - j)) (2 ^ j)) in
     let top : 53 + (1074 - j) ≤ 1074 + 1024 = omega arith in
     value→is (round binary64 s n (2 ^ j)) s n (2 ^ j) (round-fits binary64 s n (2 ^ j))
     (round-exact binary64 s n (2 ^ j) n (1074 - j) (pow-pos j) h (lt-of-lt-of-le (shl-lt 53 (1074 - j) h) (pow-mono top)) e)
@@ -42,7 +42,7 @@ pub within : (k : ℕ) (x : Float) (s : Bool) (n d : ℕ) → 0 < d → d ≤ 2 
 within k x s n d D h l w =
     let e = cross x s n d w in
     let size : (num x ≡ 0) ⊎ ((den x ≤ num x * 2 ^ k) × (num x ≤ 2 ^ k * den x)) =
-        ⊎-elim (λ z. inl (none n d (num x) (den x) D e z)) (λ N. inr (low-end (num x) (den x) n d (2 ^ k) N h e, high-end (num x) (den x) n d (2 ^ k) D l e)) (eq-zero-or-pos n) in
+    ⊎-elim (λ z. inl (none n d (num x) (den x) D e z)) (λ N. inr (low-end (num x) (den x) n d (2 ^ k) N h e, high-end (num x) (den x) n d (2 ^ k) D l e)) (eq-zero-or-pos n) in
     (number x s n d w, size)
 
 -- ---- products and sums of fractions
@@ -88,15 +88,15 @@ use-fma m R a b c p r s t u n d k e l g D E G d-le e-le g-le n-le k-le l-le A B 
     let first = two-terms n k g d e (num a) (den a) (num b) (den b) (den c) a-is b-is in
     let second = one-term l d e g (num c) (den a) (den b) (den c) (cross c u l g C) in
     let sign-is : (N ≡ 0) ⊎ (unlike s t ≡ v) =
-        ⊎-elim (λ z. inl (nothing n d (num a) (den a) (num b) D a-is z)) (λ h. inr (λ i. unlike (sym h i) (sym b-sign i))) (signs a s n d A) in
+    ⊎-elim (λ z. inl (nothing n d (num a) (den a) (num b) D a-is z)) (λ h. inr (λ i. unlike (sym h i) (sym b-sign i))) (signs a s n d A) in
     let turned : (N * den c ≡ 0) ⊎ (unlike s t ≡ v) = ⊎-elim (λ z. inl (ap (λ (x : ℕ). x * den c) z ∙ zero-mul (den c))) inr sign-is in
     let back' : (N * den c ≡ 0) ⊎ (v ≡ unlike s t) = ⊎-elim inl (λ h. inr (sym h)) turned in
     let scaled : Is p (unlike s t) N M = scale-is p (unlike s t) (n * k) (d * e) N M (mul-pos D E) (product-terms n k d e (num a) (den a) (num b) (den b) a-is b-is) P in
     let product : Product a b p = ⊎-elim (λ z. turn-is p (unlike s t) v N N M z z scaled) (λ h. subst (λ (w : Bool). Is p w N M) h scaled) sign-is in
     let there : MulAdd a b c r =
-        subst (λ (w : Bool). IsSum r v (N * den c) w (num c * M) (M * den c)) (sym c-sign)
-        (resign r (unlike s t) v u (N * den c) (num c * M) (M * den c) turned
-        (scale-sum r (unlike s t) u (n * k * g) (l * (d * e)) (d * e * g) (N * den c) (num c * M) (M * den c) fraction-pos terms-pos first second S)) in
+    subst (λ (w : Bool). IsSum r v (N * den c) w (num c * M) (M * den c)) (sym c-sign)
+    (resign r (unlike s t) v u (N * den c) (num c * M) (M * den c) turned
+    (scale-sum r (unlike s t) u (n * k * g) (l * (d * e)) (d * e * g) (N * den c) (num c * M) (M * den c) fraction-pos terms-pos first second S)) in
     let z = m .fma a b c in
     let got : MulAdd a b c z = R .fma-exact a b c p r (within 400 a s n d D d-le n-le A) (within 400 b t k e E e-le k-le B) (within 512 c u l g G g-le l-le C) product there in
     scale-sum z (unlike s t) u (N * den c) (num c * M) (M * den c) (n * k * g) (l * (d * e)) (d * e * g) terms-pos fraction-pos (sym first) (sym second)

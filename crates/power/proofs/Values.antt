@@ -34,7 +34,7 @@ bounds f s zero e t =
     record {
       few = pow-pos (prec f);
       fine = le-trans (at-most-one (up e) (down e) (up-pos e) one) (pow-pos (low f));
-      small = subst (λ (x : ℕ). x < 2 ^ suc (emax f) * down e) (sym (zero-mul (up e))) (mul-pos (pow-pos (suc (emax f))) (down-pos e))
+      small = subst (λ (x : ℕ). x < 2 ^ suc (emax f) * down e) (sym (zero-mul (up e))) (mul-pos (pow-pos (suc (emax f))) (down-pos e));
     }
 bounds f s (suc m) e t =
     let a : Bool = eqb (suc m % 2) 1 in
@@ -44,7 +44,7 @@ bounds f s (suc m) e t =
     record {
       few = ltb→lt (suc m) (2 ^ prec f) (and-r a b (and-l (a && b) c (and-l (a && b && c) d t)));
       fine = leb→le (down e) (2 ^ low f) (and-r (a && b) c (and-l (a && b && c) d t));
-      small = ltb→lt (suc m * up e) (2 ^ suc (emax f) * down e) (and-r (a && b && c) d t)
+      small = ltb→lt (suc m * up e) (2 ^ suc (emax f) * down e) (and-r (a && b && c) d t);
     }
 
 -- ---- a fraction that is a value of the format
@@ -141,7 +141,7 @@ scale-is (inf t) s n d n' d' D h w = w
 scale-is (fin t m e) s n d n' d' D h w = (
   w .0,
   eq-of-mul-eq-mul-right d D (m * up e * d') (n' * down e)
-  (mul-right-comm (m * up e) d' d ∙ ap (λ (z : ℕ). z * d') (w .1) ∙ mul-right-comm n (down e) d' ∙ ap (λ (z : ℕ). z * down e) h ∙ mul-right-comm n' d (down e)),
+      (mul-right-comm (m * up e) d' d ∙ ap (λ (z : ℕ). z * d') (w .1) ∙ mul-right-comm n (down e) d' ∙ ap (λ (z : ℕ). z * down e) h ∙ mul-right-comm n' d (down e)),
   ⊎-elim (λ z. inl (eq-of-mul-eq-mul-right d D n' 0 (sym h ∙ ap (λ (y : ℕ). y * d') z ∙ zero-mul d' ∙ sym (zero-mul d)))) inr (w .2),
 )
 

@@ -119,7 +119,7 @@ add-zero-left (fin s m e) (inf t) Z N = absurd N
 add-zero-left (fin s m e) (fin t n d) Z N =
     let y = fin t n d in
     let is : Is y t (n * up d * down e) (down e * down d) =
-        scale-is y t (n * up d) (down d) (n * up d * down e) (down e * down d) (down-pos d) (sym (mul-assoc (n * up d) (down e) (down d))) (own-is y N) in
+    scale-is y t (n * up d) (down d) (n * up d * down e) (down e * down d) (down-pos d) (sym (mul-assoc (n * up d) (down e) (down d))) (own-is y N) in
     sum-none y s t (m * up e * down d) (n * up d * down e) (down e * down d) (mul-pos (down-pos e) (down-pos d)) (no-product m (up e) (down d) (Z .1)) is
 
 pub mul-one-right : (x : Float) → Number x → mul binary64 x unit ≡ x
@@ -130,8 +130,10 @@ mul-one-right (fin s m e) N = go s N
   where
     D : 0 < down e * 1
     D = mul-pos (down-pos e) (omega arith)
+
     same : m * up e * (down e * 1) ≡ m * up e * 1 * down e
     same = ap (λ (x : ℕ). m * up e * x) (mul-one (down e)) ∙ ap (λ (x : ℕ). x * down e) (sym (mul-one (m * up e)))
+
     go : (s : Bool) → T (fits binary64 (fin s m e)) → round binary64 (unlike s false) (m * up e * 1) (down e * 1) ≡ fin s m e
     go true N =
         value-unique binary64 (round binary64 true (m * up e * 1) (down e * 1)) (fin true m e) true (m * up e * 1) (down e * 1) D

@@ -32,7 +32,7 @@ portableScalar = record {
   integerf = Tests.integerf;
   odd-integerf = Tests.oddIntegerf;
   round = roundAway binary64;
-  err = 128
+  err = 128;
 }
 
 abbrev pub portableProducts : Products

@@ -10,12 +10,12 @@ use crate::fast::hi_bits;
 use crate::fast::scale;
 use crate::lookup::exp2_mid;
 use crate::lookup::f64_of;
-use crate::lookup::log2_r2_dd;
 use crate::lookup::log2_r_td;
+use crate::lookup::log2_r2_dd;
 use crate::lookup::powf_r2;
 use crate::polynomial::PairNumber;
-use crate::polynomial::polyeval10;
 use crate::polynomial::polyeval6;
+use crate::polynomial::polyeval10;
 use pairs::bits::biased_exponent_f64;
 use pairs::double_double::DoubleDouble;
 use pairs::narrowing::narrow;
@@ -146,7 +146,11 @@ fn settled(r: DoubleDouble) -> f64
     if std::num::f64_to_bits_with_nan(r.hi) & 0xfff_ffff != 0 || r.lo == 0.0 {
         return r.hi;
     }
-    if r.lo != r.lo { not_a_double() } else { nudged(r.hi, r.lo) }
+    if r.lo != r.lo {
+        not_a_double()
+    } else {
+        nudged(r.hi, r.lo)
+    }
 }
 
 // e 2^(x/64).
@@ -171,7 +175,11 @@ fn finished<B: PowfBackend>(d: Doubt, log: DoubleDouble, backend: &B) -> f64
         return not_a_double();
     }
     let lo6 = ordered_add(prod, DoubleDouble::new(0.0, d.high));
-    scaled(DoubleDouble::new(scale_low(d.count), scale(d.count)), lo6, backend)
+    scaled(
+        DoubleDouble::new(scale_low(d.count), scale(d.count)),
+        lo6,
+        backend,
+    )
 }
 
 fn powf_dd<B: PowfBackend>(d: Doubt, backend: &B) -> f64

@@ -79,7 +79,11 @@ fn count(h: f64) -> u64
 {
     let c = clamped(h);
     let n = std::num::saturating_f64_to_u32(c.abs()) as u64;
-    if c < 0.0 { 65536u64.saturating_sub(n) } else { 65536 + n }
+    if c < 0.0 {
+        65536u64.saturating_sub(n)
+    } else {
+        65536 + n
+    }
 }
 
 // The bits that 2^floor(h/64) adds to a pattern's exponent.
@@ -155,5 +159,14 @@ pub fn fast<B: PowfBackend>(x: f32, y: f32, backend: &B) -> Outcome
     let low = rest(reduced, y6, high, backend);
     let k = count(h);
     let r = exp_poly(low, backend) * scale(k);
-    tested(backend.err(), r, Doubt { reduced, y6, high, count: k })
+    tested(
+        backend.err(),
+        r,
+        Doubt {
+            reduced,
+            y6,
+            high,
+            count: k,
+        },
+    )
 }

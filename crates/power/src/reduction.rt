@@ -30,9 +30,15 @@ pub fn normalize(x: f32) -> Scaled
     ensures { λ r. ⌜ r ≡ Reduction.normalize x ⌝ }
 {
     if x < f32::MIN_POSITIVE {
-        Scaled { bits: std::num::f32_to_bits_with_nan(x * 18446744073709551616.0), bias: 191.0 }
+        Scaled {
+            bits: std::num::f32_to_bits_with_nan(x * 18446744073709551616.0),
+            bias: 191.0,
+        }
     } else {
-        Scaled { bits: std::num::f32_to_bits_with_nan(x), bias: 127.0 }
+        Scaled {
+            bits: std::num::f32_to_bits_with_nan(x),
+            bias: 127.0,
+        }
     }
 }
 
@@ -82,7 +88,12 @@ pub fn reduce<B: PowfBackend>(b: Scaled, backend: &B) -> Reduced
     ensures placed { λ r. ⌜ Reduction.Placed r ⌝ }
 {
     let dx = reduced_argument(b.bits, backend);
-    Reduced { index: index(b.bits), exponent: exponent(b), dx, p: log_poly(dx, backend) }
+    Reduced {
+        index: index(b.bits),
+        exponent: exponent(b),
+        dx,
+        p: log_poly(dx, backend),
+    }
 }
 
 // The contract is the rule that the table of r's keeps to; the body computes nothing.

@@ -93,7 +93,7 @@ of-fields s a zero t e f h =
     let q : t ≡ a = omega arith in
     subst (λ (n : ℕ). Says a (odd 24 s n 0 149)) (sym q) (record {
       none = λ z. elim z [
-        inl i ↦ subst (λ (n : ℕ). 0 ≡ significantBits (odd 24 s n 0 149)) (sym i) (of-zero s 0 149)
+        | inl i ↦ subst (λ (n : ℕ). 0 ≡ significantBits (odd 24 s n 0 149)) (sym i) (of-zero s 0 149)
         | inr i ↦ absurd (omega arith)
       ];
       subnormal = λ p u. canonical s a 0 149 p (omega arith);

@@ -18,7 +18,7 @@ counts c =
     let h = says (c .args .x) _ (subst T (sym (c .good .0 .1)) tt) (c .f32-to-bits-with-nan-x-abs .ensures) in
     let n = significantBits (c .args .x) in
     elim (c .if-x-abs-lt8388608 .came) [
-      then-x-abs-lt8388608 w ↦ subst (λ (d : ℕ). Counts d n) (sym (w .digits-is)) (h .subnormal (omega arith) (omega arith))
+      | then-x-abs-lt8388608 w ↦ subst (λ (d : ℕ). Counts d n) (sym (w .digits-is)) (h .subnormal (omega arith) (omega arith))
       | else-x-abs-lt8388608 w ↦ subst (λ (d : ℕ). Counts d n) (sym (w .digits-is ∙ hidden _)) (h .normal (omega arith) (omega arith))
     ]
 

@@ -13,13 +13,13 @@ rules-law b = record {
     round-away = λ x X. away x (X .0);
     fma-exact = λ x y z p r X Y Z. twice-rounded x y z p r (X .0) (Y .0) (Z .0);
     err-least = omega arith;
-    err-most = omega arith
+    err-most = omega arith;
   };
   products = record {
     zero-left = quick-zero-left;
     zero-right = quick-zero-right;
     one-right = quick-one-right;
     zero-left-f64 = quick-zero-left-f64;
-    zero-right-f64 = quick-zero-right-f64
-  }
+    zero-right-f64 = quick-zero-right-f64;
+  };
 }
