@@ -104,38 +104,34 @@ exact-zero-right a b A B =
 pub quick-zero-left : (a b : DoubleDouble) → WithinPair a → WithinPair b → ZeroPair a → ZeroPair (quickMult a b)
 unfolding quickMult
 quick-zero-left a b A B Z =
-    let lo : IsZero (a .lo) = (A .0 .0, Z .0) in
-    let hi : IsZero (a .hi) = (A .1 .0, Z .1) in
-    let c = exact-zero-left (a .hi) (b .hi) hi (within-bounded 400 (b .hi) (B .1)) in
+    let c = exact-zero-left (a .hi) (b .hi) (Z .1) (within-bounded 400 (b .hi) (B .1)) in
     let x = times (a .hi) (b .lo) in
     let y = times (a .lo) (b .hi) in
-    let rest = add-zeros x y (mul-zero-left (a .hi) (b .lo) hi (B .0 .0)) (mul-zero-left (a .lo) (b .hi) lo (B .1 .0)) in
-    (add-zeros (exactMult (a .hi) (b .hi) .lo) (plus x y) (c .0) rest .1, c .1 .1)
+    let rest = add-zeros x y (mul-zero-left (a .hi) (b .lo) (Z .1) (B .0 .0)) (mul-zero-left (a .lo) (b .hi) (Z .0) (B .1 .0)) in
+    (add-zeros (exactMult (a .hi) (b .hi) .lo) (plus x y) (c .0) rest, c .1)
 
 pub quick-zero-right : (a b : DoubleDouble) → WithinPair a → WithinPair b → ZeroPair b → ZeroPair (quickMult a b)
 unfolding quickMult
 quick-zero-right a b A B Z =
-    let lo : IsZero (b .lo) = (B .0 .0, Z .0) in
-    let hi : IsZero (b .hi) = (B .1 .0, Z .1) in
-    let c = exact-zero-right (a .hi) (b .hi) (within-bounded 400 (a .hi) (A .1)) hi in
+    let c = exact-zero-right (a .hi) (b .hi) (within-bounded 400 (a .hi) (A .1)) (Z .1) in
     let x = times (a .hi) (b .lo) in
     let y = times (a .lo) (b .hi) in
-    let rest = add-zeros x y (mul-zero-right (a .hi) (b .lo) (A .1 .0) lo) (mul-zero-right (a .lo) (b .hi) (A .0 .0) hi) in
-    (add-zeros (exactMult (a .hi) (b .hi) .lo) (plus x y) (c .0) rest .1, c .1 .1)
+    let rest = add-zeros x y (mul-zero-right (a .hi) (b .lo) (A .1 .0) (Z .0)) (mul-zero-right (a .lo) (b .hi) (A .0 .0) (Z .1)) in
+    (add-zeros (exactMult (a .hi) (b .hi) .lo) (plus x y) (c .0) rest, c .1)
 
 pub quick-zero-left-f64 : (a : DoubleDouble) (b : Float) → WithinPair a → Within 400 b → ZeroPair a → ZeroPair (quickMultF64 a b)
 unfolding quickMultF64
 quick-zero-left-f64 a b A B Z =
-    let c = exact-zero-left (a .hi) b (A .1 .0, Z .1) (within-bounded 400 b B) in
-    let rest = mul-zero-left (a .lo) b (A .0 .0, Z .0) (B .0) in
-    (add-zeros (exactMult (a .hi) b .lo) (times (a .lo) b) (c .0) rest .1, c .1 .1)
+    let c = exact-zero-left (a .hi) b (Z .1) (within-bounded 400 b B) in
+    let rest = mul-zero-left (a .lo) b (Z .0) (B .0) in
+    (add-zeros (exactMult (a .hi) b .lo) (times (a .lo) b) (c .0) rest, c .1)
 
 pub quick-zero-right-f64 : (a : DoubleDouble) (b : Float) → WithinPair a → Within 400 b → Zero b → ZeroPair (quickMultF64 a b)
 unfolding quickMultF64
 quick-zero-right-f64 a b A B Z =
     let c = exact-zero-right (a .hi) b (within-bounded 400 (a .hi) (A .1)) (B .0, Z) in
     let rest = mul-zero-right (a .lo) b (A .0 .0) (B .0, Z) in
-    (add-zeros (exactMult (a .hi) b .lo) (times (a .lo) b) (c .0) rest .1, c .1 .1)
+    (add-zeros (exactMult (a .hi) b .lo) (times (a .lo) b) (c .0) rest, c .1)
 
 -- ---- 1
 

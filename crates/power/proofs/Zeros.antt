@@ -65,7 +65,7 @@ sum-zeros s t a b c C p q = go (Bool·beq s t) (ltb a b)
     go false true = round-zero t (b - a) c C (omega arith)
     go false false = round-zero (s && ltb b a) (a - b) c C (omega arith)
 
-add-both : (x y : Float) → Zero x → Zero y → Zero (add binary64 x y)
+pub add-both : (x y : Float) → Zero x → Zero y → Zero (add binary64 x y)
 unfolding add
 add-both nan y Z W = Z
 add-both (inf s) y Z W = absurd Z
@@ -77,7 +77,7 @@ add-both (fin s m e) (fin t n d) Z W =
 pub add-zeros : (x y : Float) → IsZero x → IsZero y → IsZero (add binary64 x y)
 add-zeros x y Z W = let z = add-both x y (Z .1) (W .1) in (zero-number (add binary64 x y) (add-fits binary64 x y) z, z)
 
-neg-zero : (x : Float) → Zero x → Zero (neg x)
+pub neg-zero : (x : Float) → Zero x → Zero (neg x)
 unfolding neg
 neg-zero nan Z = Z
 neg-zero (inf s) Z = Z
@@ -110,17 +110,20 @@ sum-none y s t a b d D z w =
     let got : IsSum x s a t b d = sum-is-same y s t a b d D (resign y t s t a b d (inl z) (with-none y t a b d z w)) in
     is-alike x y t b d D (of-none x t a b d z (resign x s t t a b d (inl z) got)) w
 
-pub add-zero-left : (x y : Float) → IsZero x → Number y → Alike (add binary64 x y) y
+pub add-none-left : (x y : Float) → Zero x → Number y → Alike (add binary64 x y) y
 unfolding add
-add-zero-left nan y Z N = absurd (Z .1)
-add-zero-left (inf s) y Z N = absurd (Z .1)
-add-zero-left (fin s m e) nan Z N = absurd N
-add-zero-left (fin s m e) (inf t) Z N = absurd N
-add-zero-left (fin s m e) (fin t n d) Z N =
+add-none-left nan y Z N = absurd Z
+add-none-left (inf s) y Z N = absurd Z
+add-none-left (fin s m e) nan Z N = absurd N
+add-none-left (fin s m e) (inf t) Z N = absurd N
+add-none-left (fin s m e) (fin t n d) Z N =
     let y = fin t n d in
     let is : Is y t (n * up d * down e) (down e * down d) =
     scale-is y t (n * up d) (down d) (n * up d * down e) (down e * down d) (down-pos d) (sym (mul-assoc (n * up d) (down e) (down d))) (own-is y N) in
-    sum-none y s t (m * up e * down d) (n * up d * down e) (down e * down d) (mul-pos (down-pos e) (down-pos d)) (no-product m (up e) (down d) (Z .1)) is
+    sum-none y s t (m * up e * down d) (n * up d * down e) (down e * down d) (mul-pos (down-pos e) (down-pos d)) (no-product m (up e) (down d) Z) is
+
+pub add-zero-left : (x y : Float) → IsZero x → Number y → Alike (add binary64 x y) y
+add-zero-left x y Z N = add-none-left x y (Z .1) N
 
 pub mul-one-right : (x : Float) → Number x → mul binary64 x unit ≡ x
 unfolding mul

@@ -72,8 +72,9 @@ one = ofBits binary64 0x3ff0_0000_0000_0000
 abbrev pub WithinPair : DoubleDouble → Type 0
 WithinPair p = Within 400 (p .lo) × Within 400 (p .hi)
 
+-- both parts are zeros of f64
 abbrev pub ZeroPair : DoubleDouble → Type 0
-ZeroPair p = Zero (p .lo) × Zero (p .hi)
+ZeroPair p = (Number (p .lo) × Zero (p .lo)) × (Number (p .hi) × Zero (p .hi))
 
 abbrev pub AlikePair : DoubleDouble → DoubleDouble → Type 0
 AlikePair p q = Alike (p .lo) (q .lo) × Alike (p .hi) (q .hi)

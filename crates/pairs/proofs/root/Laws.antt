@@ -6,7 +6,7 @@ use native.Mathlib.Nat.{mul-le-mul, mul-le-mul-right, mul-lt-mul-of-pos-right, l
 use native.Mathlib.Omega.{arith}
 use lib.Dec.{leb, eqb, isLe, isEq}
 use lib.Pow.{pow-add, pow-pos, pow-mono}
-use borrow.Author.Tests.{leb-true, leb-false, eqb-true, eqb-false}
+use borrow.Author.Tests.{leb-true, leb-false, eqb-true, eqb-false, eq-eqb}
 use lib.Ieee.{Format, prec, low, hid, size, nearest, units, round}
 use lib.Ieee.Digits.{size-lt, size-le}
 use lib.Ieee.Fits.{round-is, two}
@@ -55,6 +55,17 @@ twice-gt n h l = go (rootBelow (size n) n) (eqb (rootBelow (size n) n * rootBelo
     go : (s : ℕ) (b : Bool) → Root s n → (b ≡ true → s * s ≡ n) → 2 * h < 2 * s + cond b 0 1
     go s true r e = omega (arith, lt-of-squares h s (omega (arith, e refl)))
     go s false r e = omega (arith, lt-of-squares h (s + 1) (omega (arith, r .1)))
+
+-- and at a square it is 2 h
+pub twice-square : (h : ℕ) → rootTwice (h * h) ≡ 2 * h
+unfolding rootTwice
+twice-square h = go (rootBelow (size (h * h)) (h * h)) (below (size (h * h)) (h * h) (size-lt (h * h)))
+  where
+    go : (s : ℕ) → Root s (h * h) → 2 * s + cond (eqb (s * s) (h * h)) 0 1 ≡ 2 * h
+    go s r =
+        let e : s ≡ h = omega (arith, lt-of-squares s (h + 1) (omega (arith, r .0)), lt-of-squares h (s + 1) (omega (arith, r .1))) in
+        let w : 2 * s + 0 ≡ 2 * h = omega arith in
+        ap (λ (b : Bool). 2 * s + cond b 0 1) (eq-eqb (s * s) (h * h) (ap (λ (x : ℕ). x * x) e)) ∙ w
 
 -- ---- the root of n (2 w)^2, from n and the whole number q nearest to its root
 
