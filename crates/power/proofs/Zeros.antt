@@ -23,7 +23,7 @@ IsZero x = Number x × Zero x
 
 -- ---- zeros
 
-zero-is : (s : Bool) (n d : ℕ) → n ≡ 0 → Is (fin s 0 (pos 0)) s n d
+pub zero-is : (s : Bool) (n d : ℕ) → n ≡ 0 → Is (fin s 0 (pos 0)) s n d
 unfolding fits
 zero-is s n d z = (tt, zero-mul d ∙ sym (mul-one n ∙ z), inr refl)
 
@@ -96,11 +96,11 @@ sub-zeros x y Z W = add-zeros x (neg y) Z (neg-number y (W .0), neg-zero y (W .1
 -- ---- a zero added, and a product with 1
 
 -- a sum whose first term is 0
-with-none : (x : Float) (t : Bool) (a b d : ℕ) → a ≡ 0 → Is x t b d → IsSum x t a t b d
+pub with-none : (x : Float) (t : Bool) (a b d : ℕ) → a ≡ 0 → Is x t b d → IsSum x t a t b d
 with-none x true a b d z w = subst (λ (n : ℕ). Is x true n d) (sym (ap (λ (k : ℕ). k + b) z ∙ zero-add b)) w
 with-none x false a b d z w = subst (λ (n : ℕ). Is x false n d) (sym (ap (λ (k : ℕ). k + b) z ∙ zero-add b)) w
 
-of-none : (x : Float) (t : Bool) (a b d : ℕ) → a ≡ 0 → IsSum x t a t b d → Is x t b d
+pub of-none : (x : Float) (t : Bool) (a b d : ℕ) → a ≡ 0 → IsSum x t a t b d → Is x t b d
 of-none x true a b d z w = subst (λ (n : ℕ). Is x true n d) (ap (λ (k : ℕ). k + b) z ∙ zero-add b) w
 of-none x false a b d z w = subst (λ (n : ℕ). Is x false n d) (ap (λ (k : ℕ). k + b) z ∙ zero-add b) w
 
