@@ -1,10 +1,11 @@
 #!/usr/bin/env python3
 """Makes a list of the reference's answers: lines `x y answer`, each a bit pattern of an f32.
 
-    make_answers.py ORACLE > crates/NAME/stdin
+    make_answers.py ORACLE [OTHER] > crates/NAME/stdin
 
 ORACLE is a program that reads lines of two bit patterns and writes, for each, the bit pattern of
-the reference's power, every NaN as 7fc00000. docs/TESTS.md says how it is built.
+the reference's power, every NaN as 7fc00000. docs/TESTS.md says how it is built. With OTHER, the
+reference in another build, the half-way powers at which the two differ are added, up to 200.
 
 Where x is negative and y is odd the reference's power of -x is taken, with its sign turned: the
 reference gives the sign to one part only of its fallback (docs/DIFFERENCES.md).
@@ -72,7 +73,7 @@ def loop_borders(rng):
                     yield b | (SIGN if rng.random() < 0.4 else 0), pattern(float(y))
 
 
-def halfway(rng):
+def halfway():
     """x = m^q 2^(q j) and y = p / q, so that x^y = m^p 2^(p j) lies halfway between two f32."""
     found = []
     for q in (1, 2, 4, 8, 16):
@@ -93,12 +94,22 @@ def halfway(rng):
                     r = m ** p * 2.0 ** (p * j)
                     if 2.0 ** -149 <= x < 2.0 ** 128 and 2.0 ** -151 <= r < 2.0 ** 128 and value(pattern(x)) == x:
                         found.append((pattern(x), pattern(p / q)))
-    found = sorted(set(found))
+    return sorted(set(found))
+
+
+def halfway_sample(rng):
+    found = halfway()
     rng.shuffle(found)
     for x, y in found[:700]:
         yield x, y
-        if y & 0x7FFFFF == 0 or value(y).is_integer():
+        if value(y).is_integer():
             yield x | SIGN, y
+
+
+def builds_differ(oracle, other):
+    found = halfway()
+    differing = [p for p, a, b in zip(found, ask(oracle, found), ask(other, found)) if a != b]
+    return differing[:200]
 
 
 def sign_of_the_fallback():
@@ -154,9 +165,10 @@ def ask(oracle, pairs):
 def main():
     oracle = sys.argv[1]
     rng = random.Random(20261117)
+    differing = builds_differ(oracle, sys.argv[2]) if len(sys.argv) > 2 else []
     pairs = []
     seen = set()
-    for maker in (special_pairs(), loop_borders(rng), halfway(rng), sign_of_the_fallback(), range_borders(rng), negative_bases(rng), general(rng)):
+    for maker in (special_pairs(), loop_borders(rng), halfway_sample(rng), differing, sign_of_the_fallback(), range_borders(rng), negative_bases(rng), general(rng)):
         for x, y in maker:
             p = (quieted(x), quieted(y))
             if p not in seen:

@@ -1,1 +1,16 @@
 pub mod Patterns
+pub mod Powers
+pub mod Integers
+pub mod Digits
+pub mod Nearest
+pub mod Units
+pub mod Scaled
+pub mod Halving
+pub mod Products
+pub mod Remainders
+pub mod Sums
+pub mod RoundedOdd
+pub mod Neighbours
+pub mod OddSums
+pub mod OneRounding
+pub mod Fusing

@@ -4,13 +4,13 @@ use lib.Ieee as Ieee
 use lib.Ieee.{Float, binary64, neg}
 use Rattle.pairs.specs.declared.double_double.DoubleDouble.{DoubleDouble}
 
-abbrev plus : Float → Float → Float
+abbrev pub plus : Float → Float → Float
 plus = Ieee.add binary64
 
-abbrev minus : Float → Float → Float
+abbrev pub minus : Float → Float → Float
 minus = Ieee.sub binary64
 
-abbrev times : Float → Float → Float
+abbrev pub times : Float → Float → Float
 times = Ieee.mul binary64
 
 abbrev pub pair : Float → Float → DoubleDouble
@@ -33,6 +33,13 @@ unfoldable pub exactAdd : Float → Float → DoubleDouble
 exactAdd a b =
     let hi = plus a b in
     pair (minus b (minus hi a)) hi
+
+-- the sum and its remainder, whichever of a and b is larger
+unfoldable pub fullExactAdd : Float → Float → DoubleDouble
+fullExactAdd a b =
+    let hi = plus a b in
+    let bb = minus hi a in
+    pair (plus (minus a (minus hi bb)) (minus b bb)) hi
 
 unfoldable pub exactMult : Float → Float → DoubleDouble
 exactMult a b =

@@ -3,3 +3,5 @@ pub mod Whole
 pub mod Narrowing
 pub mod Root
 pub mod DoubleDouble
+pub mod Value
+pub mod Fused

@@ -5,6 +5,7 @@
 ghost use mathlib.Core.Path.{_≡_};
 ghost use lib.Ieee.{Float};
 ghost use Rattle.pairs.specs.DoubleDouble as Pairs;
+ghost use Rattle.pairs.specs.Value.{Moderate, Bounded, Halved, AddsTo, ExactProduct};
 
 #[derive(Clone, Copy)]
 pub struct DoubleDouble {
@@ -39,7 +40,8 @@ impl DoubleDouble {
 
     // Two halves of 26 bits that add up to a.
     pub fn split(a: f64) -> DoubleDouble
-        ensures { λ r. ⌜ r ≡ Pairs.split a ⌝ }
+        ensures value { λ r. ⌜ r ≡ Pairs.split a ⌝ }
+        ensures halves { λ r. ⌜ (Moderate a → Halved a (r .hi) (r .lo)) ⌝ }
     {
         let t1 = 134217729.0 * a;
         let t2 = a - t1;
@@ -56,9 +58,21 @@ impl DoubleDouble {
         DoubleDouble::new(b - t, r_hi)
     }
 
+    // a + b and what its rounding lost, whichever of them is larger.
+    pub fn from_full_exact_add(a: f64, b: f64) -> DoubleDouble
+        ensures value { λ r. ⌜ r ≡ Pairs.fullExactAdd a b ⌝ }
+        ensures exact { λ r. ⌜ (Bounded 2090 a → Bounded 2090 b → AddsTo a b (r .hi) (r .lo)) ⌝ }
+    {
+        let r_hi = a + b;
+        let bb = r_hi - a;
+        let aa = r_hi - bb;
+        DoubleDouble::new((a - aa) + (b - bb), r_hi)
+    }
+
     // a b and what its rounding lost.
     pub fn from_exact_mult(a: f64, b: f64) -> DoubleDouble
-        ensures { λ r. ⌜ r ≡ Pairs.exactMult a b ⌝ }
+        ensures value { λ r. ⌜ r ≡ Pairs.exactMult a b ⌝ }
+        ensures exact { λ r. ⌜ (Moderate a → Moderate b → ExactProduct a b (r .hi) (r .lo)) ⌝ }
     {
         let asz = DoubleDouble::split(a);
         let bs = DoubleDouble::split(b);
