@@ -214,17 +214,17 @@ mul-value f x y X Y Z v w e u = mul-at f x y (v .sign) (w .sign) (v .count) (w .
 -- ---- the sum
 
 -- the sum of two numbers of one sign
-alike-sum : (s : Bool) (a b : ℕ) → signed s a +ℤ signed s b ≡ signed s (a + b)
+pub alike-sum : (s : Bool) (a b : ℕ) → signed s a +ℤ signed s b ≡ signed s (a + b)
 alike-sum false a b = refl
 alike-sum true a b = omega (arith, ints)
 
 -- of two signs, where the second is not smaller
-unlike-sum : (s : Bool) (a b : ℕ) → a ≤ b → signed s a +ℤ signed (not s) b ≡ signed (not s) (b - a)
+pub unlike-sum : (s : Bool) (a b : ℕ) → a ≤ b → signed s a +ℤ signed (not s) b ≡ signed (not s) (b - a)
 unlike-sum false a b h = omega (arith, ints)
 unlike-sum true a b h = omega (arith, ints)
 
 -- and where the first is not
-unlike-sum' : (s : Bool) (a b : ℕ) → b ≤ a → signed s a +ℤ signed (not s) b ≡ signed s (a - b)
+pub unlike-sum' : (s : Bool) (a b : ℕ) → b ≤ a → signed s a +ℤ signed (not s) b ≡ signed s (a - b)
 unlike-sum' false a b h = omega (arith, ints)
 unlike-sum' true a b h = omega (arith, ints)
 

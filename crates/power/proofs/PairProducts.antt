@@ -135,7 +135,7 @@ quick-zero-right-f64 a b A B Z =
 
 -- ---- 1
 
-one-unit : one ≡ unit
+pub one-unit : one ≡ unit
 unfolding ofBits
 one-unit = refl
 

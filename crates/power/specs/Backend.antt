@@ -5,7 +5,8 @@ use lib.Ieee as Ieee
 use lib.Ieee.{Float, binary64}
 use Rattle.std.specs.Floats.{roundAway}
 use Rattle.pairs.specs.declared.double_double.DoubleDouble.{DoubleDouble}
-use Rattle.pairs.specs.DoubleDouble.{quickMult, quickMultF64}
+use Rattle.pairs.specs.DoubleDouble.{quickMult, quickMultF64, quickMultFma, quickMultF64Fma}
+use Rattle.pairs.specs.Fused.{fusedSum}
 use Rattle.pairs.specs.Whole as Tests
 
 -- the part on single numbers, which is all that the fast path asks for
@@ -40,3 +41,13 @@ portableProducts = record { quick-mult = quickMult; quick-mult-f64 = quickMultF6
 
 abbrev pub portable : Arithmetic
 portable = record { scalar = portableScalar; products = portableProducts }
+
+-- the fused arithmetic: a product and a sum with one rounding
+abbrev pub fusedScalar : Scalar
+fusedScalar = record { fma = fusedSum; integerf = Tests.integerf; odd-integerf = Tests.oddIntegerf; round = roundAway binary64; err = 64 }
+
+abbrev pub fusedProducts : Products
+fusedProducts = record { quick-mult = quickMultFma fusedSum; quick-mult-f64 = quickMultF64Fma fusedSum }
+
+abbrev pub fused : Arithmetic
+fused = record { scalar = fusedScalar; products = fusedProducts }

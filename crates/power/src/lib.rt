@@ -2,6 +2,7 @@
 pub mod backend;
 mod fallback;
 mod fast;
+pub mod fused;
 pub mod limits;
 mod lookup;
 mod polynomial;

@@ -80,13 +80,19 @@ mod tests {
     // A tie with a fractional exponent, where the reference answers the odd neighbour.
     #[test]
     fn fractional_tie() -> Result<(), Fail> {
-        check_eq(power_bits(0x0d61_7810, 0x3fa0_0000, &Portable {}), 0x00da_6c4f)
+        check_eq(
+            power_bits(0x0d61_7810, 0x3fa0_0000, &Portable {}),
+            0x00da_6c4f,
+        )
     }
 
     // A tie at which the two builds of the reference differ.
     #[test]
     fn builds_differ() -> Result<(), Fail> {
-        check_eq(power_bits(0x40bc_e880, 0x3fc0_0000, &Portable {}), 0x4165_7e74)?;
+        check_eq(
+            power_bits(0x40bc_e880, 0x3fc0_0000, &Portable {}),
+            0x4165_7e74,
+        )?;
         check_eq(power_bits(0x40bc_e880, 0x3fc0_0000, &Fused {}), 0x4165_7e73)
     }
 
