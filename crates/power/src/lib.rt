@@ -12,3 +12,5 @@ mod reduction;
 mod special;
 mod tables;
 mod whole;
+
+pub use reduction::range_rule;
