@@ -54,7 +54,7 @@ bounded-value nan s g l k L t v h = absurd v
 bounded-value (inf u) s g l k L t v h = absurd v
 bounded-value (fin u m e) s g l k L t v h = (t, bound-back (m * up e) (down e) g l (2 ^ k) L (v .1) h)
 
-pub round-bounded : (s : Bool) (n d k : ℕ) → 0 < d → k ≤ 1023 → n ≤ 2 ^ k * d → Bounded k (round binary64 s n d)
+round-bounded : (s : Bool) (n d k : ℕ) → 0 < d → k ≤ 1023 → n ≤ 2 ^ k * d → Bounded k (round binary64 s n d)
 round-bounded s n d k D top h =
     let l = low binary64 in
     let scaled : n * 2 ^ l ≤ 2 ^ (k + l) * d =

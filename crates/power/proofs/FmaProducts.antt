@@ -15,7 +15,9 @@ use Rattle.pairs.specs.DoubleDouble.{Fused, exactMultFma, quickMultFma, quickMu
 use Rattle.power.specs.Rules.{ProductRules, Is, IsSum, Product, MulAdd, Number, Within, WithinPair, Zero, ZeroPair, Alike, AlikePair, sign, num, den}
 use Rattle.power.proofs.Values.{den-pos, number, own-is, scale-is}
 use Rattle.power.proofs.Unique.{is-zero, is-alike}
-use Rattle.power.proofs.Zeros.{unit, IsZero, mul-zero-left, mul-zero-right, mul-one-right, neg-number, neg-zero}
+use Rattle.std.specs.Floats.{one as unit}
+use Rattle.power.proofs.Alike.{IsZero}
+use Rattle.power.proofs.Zeros.{mul-zero-left, mul-zero-right, mul-one-right, neg-number, neg-zero}
 use Rattle.power.proofs.PairProducts.{one-unit}
 
 abbrev times : Float → Float → Float

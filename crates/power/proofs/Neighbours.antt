@@ -10,9 +10,8 @@ use lib.Arith.{lt-of-le-ne}
 use lib.Dec.{T}
 use lib.Pow.{pow-add, pow-mono}
 use lib.Ieee as Ieee
-use lib.Ieee.{Float, nan, binary32, binary64, ofBits, toBits, isNan, ne}
+use lib.Ieee.{Float, Format, nan, binary32, binary64, hid, ones, top, ofBits, toBits, isNan, ne}
 use lib.Ieee.Bits.{toBits-ofBits, nanBits-is, nanBits-above}
-use lib.Ieee.Compare.{differs-from-itself}
 use lib.Ieee.Nearest.{closest}
 use Rattle.std.specs.Floats.{nearestIn}
 use Rattle.pairs.specs.Narrowing.{Narrowed}
@@ -21,6 +20,7 @@ use Rattle.power.specs.Lookup.{f64}
 use Rattle.power.specs.Fast.{upper, lower, tested}
 use Rattle.power.specs.declared.fast.Doubt.{Doubt}
 use Rattle.power.specs.declared.fast.Outcome.the-variants.{Sure, Open}
+use Rattle.power.proofs.FloatTests.{ne-itself, not-nan}
 
 -- ---- the nearest whole number
 
@@ -73,7 +73,7 @@ beside-subnormal c b (l, u) cl cu lo hi = subnormal b (2 ^ (c - 874)) lo hi (sym
         ap (λ (x : ℕ). closest (2 ^ 52 + b % 2 ^ 52) (2 ^ (926 - x))) f ∙ near (2 ^ 52 + b % 2 ^ 52) k (2 ^ (c - 874)) (omega arith) (omega (arith, p, h, r)) (omega (arith, p, h, s))
 
 -- all of them have one nearest f32, unless the power is 2^-150
-pub alike : (c : ℕ) → 511 ≤ c → c ≤ 1535 → (c ≡ 873 → ⊥) → (r : ℕ) × ((b : ℕ) → Beside c b → Narrowed b r)
+alike : (c : ℕ) → 511 ≤ c → c ≤ 1535 → (c ≡ 873 → ⊥) → (r : ℕ) × ((b : ℕ) → Beside c b → Narrowed b r)
 alike c lo hi away = go (eq-zero-or-pos (873 - c)) (eq-zero-or-pos (c - 896)) (eq-zero-or-pos (c - 1150))
   where
     by-normal : 0 < c - 896 → c ≤ 1150 → (b : ℕ) → Beside c b → Narrowed b ((c - 896) * 2 ^ 23)
@@ -106,13 +106,13 @@ alike c lo hi away = go (eq-zero-or-pos (873 - c)) (eq-zero-or-pos (c - 896)) (e
     go (inl p) (inr q) (inr r) = (255 * 2 ^ 23, by-huge r)
 
 -- at 2^-150 those above it have 2^-149, and those below it 0
-pub above-tie : (b : ℕ) → 873 * 2 ^ 52 < b → b ≤ 873 * 2 ^ 52 + 128 → Narrowed b 1
+above-tie : (b : ℕ) → 873 * 2 ^ 52 < b → b ≤ 873 * 2 ^ 52 + 128 → Narrowed b 1
 above-tie b l u =
     let f : b / 2 ^ 52 ≡ 873 = omega arith in
     subnormal b 1 (omega arith) (omega arith)
     (sym (ap (λ (x : ℕ). closest (2 ^ 52 + b % 2 ^ 52) (2 ^ (926 - x))) f ∙ near (2 ^ 52 + b % 2 ^ 52) 53 1 (omega arith) (omega arith) (omega arith)))
 
-pub below-tie : (b : ℕ) → b < 873 * 2 ^ 52 → Narrowed b 0
+below-tie : (b : ℕ) → b < 873 * 2 ^ 52 → Narrowed b 0
 below-tie b h = tiny b h
 
 -- ---- the rounding test
@@ -120,48 +120,36 @@ below-tie b h = tiny b h
 abbrev power : ℕ → Float
 power c = f64 (c * 2 ^ 52)
 
-no-nan : (c : ℕ) → c ≤ 1535 → T (not (isNan (power c)))
-no-nan c h =
-    let b = c * 2 ^ 52 in
-    let low : b % 2 ^ 63 ≤ 2047 * 2 ^ 52 = omega arith in
-    subst (λ (z : Bool). T (not z)) (sym (sym (nanBits-is binary64 b) ∙ nanBits-above binary64 b ∙ le-ltb (2047 * 2 ^ 52) (b % 2 ^ 63) low)) tt
+-- a pattern up to infinity's is no NaN
+no-nan : (f : Format) (b : ℕ) → b % top f ≤ ones f * hid f → T (not (isNan (ofBits f b)))
+no-nan f b h = subst (λ (z : Bool). T (not z)) (sym (sym (nanBits-is f b) ∙ nanBits-above f b ∙ le-ltb (ones f * hid f) (b % top f) h)) tt
+
+power-no-nan : (c : ℕ) → c ≤ 1535 → T (not (isNan (power c)))
+power-no-nan c h = no-nan binary64 (c * 2 ^ 52) (omega arith)
 
 -- what is no NaN equals itself
-pub self : (x : Float) → T (not (isNan x)) → ne x x ≡ false
-self x h = go (ne x x) refl
-  where
-    never : isNan x ≡ true → ⊥
-    never e = subst (λ (z : Bool). T (not z)) e h
-
-    go : (q : Bool) → ne x x ≡ q → q ≡ false
-    go true e = absurd (never (ap isNan (differs-from-itself x (subst T (sym e) tt)) ∙ unfold isNan in refl))
-    go false e = refl
+self : (x : Float) → T (not (isNan x)) → ne x x ≡ false
+self x h = ne-itself x (not-nan (λ y. T (not (isNan y))) (unfold isNan in λ t. t) x h)
 
 bits : (c : ℕ) → c ≤ 1535 → toBits binary64 (power c) ≡ c * 2 ^ 52
-bits c h = toBits-ofBits binary64 (c * 2 ^ 52) (omega arith) (no-nan c h)
+bits c h = toBits-ofBits binary64 (c * 2 ^ 52) (omega arith) (power-no-nan c h)
 
 narrows : (b r : ℕ) → Narrowed b r → nearestIn binary32 (f64 b) ≡ ofBits binary32 r
 narrows b r N = ap (λ (x : ℕ). nearestIn binary32 (f64 x)) (sym (zero-add b)) ∙ sym (N .nearest false) ∙ ap (ofBits binary32) (zero-add r)
 
+-- the f32 nearest to the f64 whose pattern is g of that of a power
+moved-is : (g : ℕ → ℕ) (c b r : ℕ) → c ≤ 1535 → g (c * 2 ^ 52) % 2 ^ 64 ≡ b → Narrowed b r → nearestIn binary32 (f64 (g (toBits binary64 (power c)) % 2 ^ 64)) ≡ ofBits binary32 r
+moved-is g c b r h e N = ap (λ (x : ℕ). nearestIn binary32 (f64 (g x % 2 ^ 64))) (bits c h) ∙ ap (λ (x : ℕ). nearestIn binary32 (f64 x)) e ∙ narrows b r N
+
 upper-is : (e c r : ℕ) → e ≤ 128 → c ≤ 1535 → Narrowed (c * 2 ^ 52 + e) r → upper e (power c) ≡ ofBits binary32 r
-upper-is e c r E h N =
-    let p : (c * 2 ^ 52 + e) % 2 ^ 64 ≡ c * 2 ^ 52 + e = omega arith in
-    ap (λ (x : ℕ). nearestIn binary32 (f64 ((x + e) % 2 ^ 64))) (bits c h) ∙ ap (λ (x : ℕ). nearestIn binary32 (f64 x)) p ∙ narrows (c * 2 ^ 52 + e) r N
+upper-is e c r E h N = moved-is (λ x. x + e) c (c * 2 ^ 52 + e) r h (omega arith) N
 
 lower-is : (e c r : ℕ) → e ≤ 128 → 511 ≤ c → c ≤ 1535 → Narrowed (c * 2 ^ 52 - e) r → lower e (power c) ≡ ofBits binary32 r
-lower-is e c r E l h N =
-    let p : (c * 2 ^ 52 + 2 ^ 64 - e) % 2 ^ 64 ≡ c * 2 ^ 52 - e = omega arith in
-    ap (λ (x : ℕ). nearestIn binary32 (f64 ((x + 2 ^ 64 - e) % 2 ^ 64))) (bits c h) ∙ ap (λ (x : ℕ). nearestIn binary32 (f64 x)) p ∙ narrows (c * 2 ^ 52 - e) r N
+lower-is e c r E l h N = moved-is (λ x. x + 2 ^ 64 - e) c (c * 2 ^ 52 - e) r h (omega arith) N
 
 -- `tested`, where both neighbours are told
 decided : (e : ℕ) (x u l : Float) (d : Doubt) → ne x x ≡ false → upper e x ≡ u → lower e x ≡ l → tested e x d ≡ cond (Ieee.eq u l) (Sure u) (Open d)
 decided e x u l d n p q = λ i. cond (n i) (Sure nan) (cond (Ieee.eq (p i) (q i)) (Sure (p i)) (Open d))
-
--- a pattern of f32 up to infinity's is no NaN
-narrow-no-nan : (r : ℕ) → r ≤ 255 * 2 ^ 23 → T (not (isNan (ofBits binary32 r)))
-narrow-no-nan r h =
-    let low : r % 2 ^ 31 ≤ 255 * 2 ^ 23 = omega arith in
-    subst (λ (z : Bool). T (not z)) (sym (sym (nanBits-is binary32 r) ∙ nanBits-above binary32 r ∙ le-ltb (255 * 2 ^ 23) (r % 2 ^ 31) low)) tt
 
 equal-self : (x : Float) → T (not (isNan x)) → Ieee.eq x x ≡ true
 unfolding ne
@@ -174,15 +162,15 @@ tested-sure e c d E lo hi away =
     let r = A .0 in
     let v = ofBits binary32 r in
     let mid = A .1 (c * 2 ^ 52) (omega arith, omega arith) in
-    let same : Ieee.eq v v ≡ true = equal-self v (narrow-no-nan r (mid .bound)) in
-    decided e (power c) v v d (self (power c) (no-nan c hi)) (upper-is e c r E hi (A .1 (c * 2 ^ 52 + e) (omega arith, omega arith)))
+    let same : Ieee.eq v v ≡ true = equal-self v (no-nan binary32 r (let h = mid .bound in omega arith)) in
+    decided e (power c) v v d (self (power c) (power-no-nan c hi)) (upper-is e c r E hi (A .1 (c * 2 ^ 52 + e) (omega arith, omega arith)))
     (lower-is e c r E lo hi (A .1 (c * 2 ^ 52 - e) (omega arith, omega arith)))
     ∙ ap (λ (z : Bool). cond z (Sure v) (Open d)) same ∙ ap Sure (sym (narrows (c * 2 ^ 52) r mid))
 
 -- 2^-150 is left open
 pub tested-tie : (e : ℕ) (d : Doubt) → 1 ≤ e → e ≤ 128 → tested e (f64 (873 * 2 ^ 52)) d ≡ Open d
 tested-tie e d l h =
-    decided e (power 873) (ofBits binary32 1) (ofBits binary32 0) d (self (power 873) (no-nan 873 (omega arith)))
+    decided e (power 873) (ofBits binary32 1) (ofBits binary32 0) d (self (power 873) (power-no-nan 873 (omega arith)))
     (upper-is e 873 1 h (omega arith) (above-tie (873 * 2 ^ 52 + e) (omega arith) (omega arith)))
     (lower-is e 873 0 h (omega arith) (omega arith) (below-tie (873 * 2 ^ 52 - e) (omega arith)))
     ∙ ap (λ (z : Bool). cond z (Sure (ofBits binary32 1)) (Open d)) differ

@@ -20,28 +20,12 @@ use Rattle.power.proofs.Uses.{dyadic, within, use-fma}
 use Rattle.power.proofs.Range.{sum-number}
 
 -- 2^14
-abbrev factor : Float
+abbrev pub factor : Float
 factor = f64 0x40d0_0000_0000_0000
 
 -- 64
-abbrev shift : Float
+abbrev pub shift : Float
 shift = f64 0x4050_0000_0000_0000
-
-factor-is : Is factor false (2 ^ 14) 1
-unfolding ofBits fits
-factor-is = (tt, refl, inr refl)
-
-factor-sign : sign factor ≡ false
-unfolding ofBits
-factor-sign = refl
-
-shift-is : Is shift false 64 1
-unfolding ofBits fits
-shift-is = (tt, refl, inr refl)
-
-shift-sign : sign shift ≡ false
-unfolding ofBits
-shift-sign = refl
 
 -- 2^14 dx + 64 is below 192, in units of 2^-31
 shifted : (s : Bool) (n : ℕ) (z : Float) → cond s (n ≤ 2 ^ 23) (n < 2 ^ 24) → IsSum z (unlike s false) (n * 2 ^ 14 * 1) false (2 ^ 37) (2 ^ 31)
@@ -77,6 +61,7 @@ few false n h = omega arith
 
 -- fma answers 2^14 dx + 64, which has few digits
 sum-is : (m : Scalar) → ScalarRules m → (x : Float) → Small x → (k : ℕ) × (k < 192 * 2 ^ 31) × Is (m .fma x factor shift) false k (2 ^ 31)
+unfolding ofBits fits
 sum-is m K x R =
     let s = R .minus in
     let n = R .size in
@@ -86,7 +71,7 @@ sum-is m K x R =
     (use-fma m K x factor shift (round binary64 (unlike s false) (n * 2 ^ 14) (2 ^ 31)) (S .0)
     s false false n (2 ^ 31) (2 ^ 14) 1 64 1
     (lit≤ tt) (lit≤ tt) (lit≤ tt) (lit≤ tt) (lit≤ tt) (lit≤ tt) (le-trans n-le (lit≤ tt)) (lit≤ tt) (lit≤ tt)
-    (R .is) factor-is shift-is factor-sign shift-sign
+    (R .is) (tt, refl, inr refl) (tt, refl, inr refl) refl refl
     (dyadic (unlike s false) (n * 2 ^ 14) 31 (omega arith) (lit≤ tt)) (S .1))
 
 -- its nearest whole number is at most 192

@@ -1,43 +1,32 @@
 -- The first reduction of a power of two: the fraction is clear, the exponent is told, and dx is zero.
 use mathlib.Core.Path.{_≡_, refl, sym, ap, subst}
 use mathlib.Core.Bool.{Bool, true, false, _&&_, Bool·beq}
-use mathlib.Core.Logic.{inl, inr}
-use Prim.Native.Nat.{ℕ, zero, suc, _*_, _/_, _^_, _≤_, _<_}
-use native.Mathlib.Nat.{lt-of-not-le, not-le-of-lt, eq-or-lt-of-le, le-of-suc-le-suc}
+use mathlib.Core.Logic.{inr}
+use Prim.Native.Nat.{ℕ, suc, _*_, _/_, _^_, _≤_, _<_}
+use native.Mathlib.Nat.{lt-of-not-le, not-le-of-lt}
 use native.Mathlib.Omega.{arith}
 use lib.Dec.{T, eqb, eqb→eq, lit≤}
-use lib.Pow.{pow-mono, pow-pos, pow-lt}
+use lib.Pow.{pow-mono, pow-pos}
 use lib.Bits.{bitAnd, bitOr}
 use lib.IntN.{ℤ, pos, negsuc, natAbs}
+use lib.ListN.{replicate}
 use lib.Ieee as Ieee
 use lib.Ieee.{Float, nan, inf, fin, binary32, binary64, up, down, fits}
 use lib.Ieee.Fits.{and-l, and-r, sub-fits}
+use Rattle.std.specs.Floats.{one as unit}
 use Rattle.power.specs.Backend.{Scalar}
-use Rattle.power.specs.Rules.{ScalarRules, Is, Within}
+use Rattle.power.specs.Rules.{ScalarRules, Is, Within, one}
 use Rattle.power.specs.Lookup.{f64, rangeReduction}
 use Rattle.power.specs.Reduction as Reduction
 use Rattle.power.specs.Reduction.{normalize, exponent, reduce, logPoly, minusOne}
 use Rattle.power.specs.declared.reduction.Reduced.{Reduced}
 use Rattle.power.specs.declared.reduction.Scaled.{Scaled}
-use Rattle.power.proofs.Values.{bounds}
-use Rattle.power.proofs.Zeros.{unit, IsZero}
-use Rattle.power.proofs.Multiple.{negative}
-use Rattle.power.proofs.ZeroProducts.{moderate, coefficient, same-within, six-zero, fma-cancels}
-
--- ---- a test of every number below n
-
-below : (ℕ → Bool) → ℕ → Bool
-below f zero = true
-below f (suc n) = f n && below f n
-
-below-at : (f : ℕ → Bool) (n i : ℕ) → T (below f n) → i < n → T (f i)
-unfolding below
-below-at f zero i t h = absurd (omega arith)
-below-at f (suc n) i t h =
-    elim (eq-or-lt-of-le (le-of-suc-le-suc h)) [
-      | inl e ↦ subst (λ (k : ℕ). T (f k)) (sym e) (and-l (f n) (below f n) t)
-      | inr l ↦ below-at f n i (and-r (f n) (below f n) t) l
-    ]
+use Rattle.power.proofs.Values.{bounds, pow-le-back}
+use Rattle.power.proofs.TableTest.{every, at}
+use Rattle.power.proofs.Alike.{IsZero, same-within}
+use Rattle.power.proofs.Multiples.{negative}
+use Rattle.power.proofs.ZeroProducts.{fma-cancels}
+use Rattle.power.proofs.ZeroPolynomials.{ranged-within, six-zero, f64-at-zero}
 
 -- ---- the fraction and the exponent of 2^k, by one computed test
 
@@ -66,61 +55,48 @@ tells : ℤ → Bool
 unfolding isWhole normalize
 tells k = let b = normalize (fin false 1 k) in eqb (bitAnd (b .bits) 0x7f_ffff) 0 && isWhole (exponent b) k
 
-all-positive : T (below (λ a. tells (pos a)) 128)
-unfolding below tells isWhole normalize Ieee.lt Ieee.mul Ieee.toBits Ieee.ofBits Ieee.sub Ieee.ofInt
+all-positive : T (every (λ a b. tells (pos a)) 0 (replicate 128 0))
+unfolding tells isWhole normalize Ieee.lt Ieee.mul Ieee.toBits Ieee.ofBits Ieee.sub Ieee.ofInt
 all-positive = tt
 
-all-negative : T (below (λ a. tells (negsuc a)) 149)
-unfolding below tells isWhole normalize Ieee.lt Ieee.mul Ieee.toBits Ieee.ofBits Ieee.sub Ieee.ofInt
+all-negative : T (every (λ a b. tells (negsuc a)) 0 (replicate 149 0))
+unfolding tells isWhole normalize Ieee.lt Ieee.mul Ieee.toBits Ieee.ofBits Ieee.sub Ieee.ofInt
 all-negative = tt
 
 power-lt : (a b : ℕ) → 2 ^ a < 2 ^ b → a < b
 power-lt a b h = lt-of-not-le (λ (g : b ≤ a). not-le-of-lt h (pow-mono g))
 
-power-le : (a b : ℕ) → 2 ^ a ≤ 2 ^ b → a ≤ b
-power-le a b h = le-of-suc-le-suc (lt-of-not-le (λ (g : suc b ≤ a). not-le-of-lt (pow-lt g) h))
+-- the exponents of f32
+in-range : (k : ℤ) → T (fits binary32 (fin false 1 k)) → natAbs k ≤ 149
+in-range (pos a) t = let h : 1 * 2 ^ a < 2 ^ 128 * 1 = bounds binary32 false 1 (pos a) t .small in omega (arith, power-lt a 128 (omega (arith, h)))
+in-range (negsuc a) t = pow-le-back (suc a) 149 (bounds binary32 false 1 (negsuc a) t .fine)
 
 told : (k : ℤ) → T (fits binary32 (fin false 1 k)) → T (tells k)
 told (pos a) t =
     let h : 1 * 2 ^ a < 2 ^ 128 * 1 = bounds binary32 false 1 (pos a) t .small in
-    below-at (λ a. tells (pos a)) 128 a all-positive (power-lt a 128 (omega (arith, h)))
-told (negsuc a) t = below-at (λ a. tells (negsuc a)) 149 a all-negative (power-le (suc a) 149 (bounds binary32 false 1 (negsuc a) t .fine))
+    at (λ a b. tells (pos a)) (replicate 128 0) all-positive a (power-lt a 128 (omega (arith, h)))
+told (negsuc a) t = at (λ a b. tells (negsuc a)) (replicate 149 0) all-negative a (in-range (negsuc a) t)
 
 -- ---- dx
 
-unit-within : (k : ℕ) → Within k unit
-unfolding fits
-unit-within k = (tt, inr (omega (arith, pow-pos k), omega (arith, pow-pos k)))
-
-minus-unit-within : (k : ℕ) → Within k (fin true 1 (pos 0))
-unfolding fits
-minus-unit-within k = (tt, inr (omega (arith, pow-pos k), omega (arith, pow-pos k)))
-
-minus-unit-is : Is (fin true 1 (pos 0)) true 1 1
-unfolding fits
-minus-unit-is = (tt, refl, inr refl)
-
 -- 1 1 - 1
-one-less-one : (m : Scalar) → ScalarRules m → IsZero (m .fma (f64 0x3ff0_0000_0000_0000) (rangeReduction 0) minusOne)
-unfolding Ieee.ofBits Ieee.neg rangeReduction
-one-less-one m K = fma-cancels m K unit unit (fin true 1 (pos 0)) 1 (unit-within 400) (unit-within 400) (minus-unit-within 512) (lit≤ tt) refl minus-unit-is
+pub one-less-one : (m : Scalar) → ScalarRules m → IsZero (m .fma one one minusOne)
+unfolding Ieee.ofBits Ieee.neg fits
+one-less-one m K =
+    let within : (s : Bool) (k : ℕ) → Within k (fin s 1 (pos 0)) = λ s k. (tt, inr (omega (arith, pow-pos k), omega (arith, pow-pos k))) in
+    fma-cancels m K unit unit (fin true 1 (pos 0)) 1 (within false 400) (within false 400) (within true 512) (lit≤ tt) refl (tt, refl, inr refl)
 
 -- a significand of 1 is reduced to nothing
-pub dx-zero : (m : Scalar) → ScalarRules m → (b : ℕ) → bitAnd b 0x7f_ffff ≡ 0 → IsZero (Reduction.dx m b)
-unfolding Reduction.dx
+dx-zero : (m : Scalar) → ScalarRules m → (b : ℕ) → bitAnd b 0x7f_ffff ≡ 0 → IsZero (Reduction.dx m b)
+unfolding Reduction.dx rangeReduction
 dx-zero m K b e =
     subst (λ (t : ℕ). IsZero (m .fma (f64 (bitOr (t * 2 ^ 29) 0x3ff0_0000_0000_0000)) (rangeReduction (t / 2 ^ 16)) minusOne)) (sym e) (one-less-one m K)
 
 -- the polynomial is its first coefficient there
-pub log-poly-zero : (m : Scalar) → ScalarRules m → (x : Float) → IsZero x → Within 400 (logPoly m x)
-unfolding logPoly moderate Ieee.ofBits
+log-poly-zero : (m : Scalar) → ScalarRules m → (x : Float) → IsZero x → Within 400 (logPoly m x)
+unfolding logPoly Ieee.ofBits fits
 log-poly-zero m K x Z =
-    let c0 = coefficient 0x3ff7_1547_652b_82fe tt in
-    same-within 400 (logPoly m x) (f64 0x3ff7_1547_652b_82fe)
-    (six-zero m K x (f64 0x3ff7_1547_652b_82fe) (f64 0xbfe7_1547_652b_7a07) (f64 0x3fde_c709_dc45_8db1)
-    (f64 0xbfd7_1547_9c22_66c9) (f64 0x3fd2_776a_e1dd_f8f0) (f64 0xbfce_7b21_7887_0157) Z
-    c0 (coefficient 0xbfe7_1547_652b_7a07 tt) (coefficient 0x3fde_c709_dc45_8db1 tt)
-    (coefficient 0xbfd7_1547_9c22_66c9 tt) (coefficient 0x3fd2_776a_e1dd_f8f0 tt) (coefficient 0xbfce_7b21_7887_0157 tt)) c0
+    same-within 400 (logPoly m x) (f64 0x3ff7_1547_652b_82fe) (six-zero (f64-at-zero m K) x _ _ _ _ _ _ Z tt tt tt tt tt tt) (ranged-within (f64 0x3ff7_1547_652b_82fe) tt)
 
 -- ---- all of it
 
@@ -131,10 +107,6 @@ pub record At (k : ℤ) (r : Reduced) : Type 0 where
   pub few : natAbs k ≤ 149
   pub dx : IsZero (r .dx)
   pub p : Within 400 (r .p)
-
-in-range : (k : ℤ) → T (fits binary32 (fin false 1 k)) → natAbs k ≤ 149
-in-range (pos a) t = let h : 1 * 2 ^ a < 2 ^ 128 * 1 = bounds binary32 false 1 (pos a) t .small in omega (arith, power-lt a 128 (omega (arith, h)))
-in-range (negsuc a) t = power-le (suc a) 149 (bounds binary32 false 1 (negsuc a) t .fine)
 
 reduced : (m : Scalar) → ScalarRules m → (k : ℤ) (b : Scaled) → natAbs k ≤ 149 → bitAnd (b .bits) 0x7f_ffff ≡ 0 → T (isWhole (exponent b) k) → At k (reduce m b)
 unfolding reduce

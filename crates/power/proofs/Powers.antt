@@ -1,24 +1,20 @@
 -- The f64 2^j for a j held within -512 and 512, and the f32 nearest to it, which is that of 2^j for every j. Assumes nothing.
 use mathlib.Core.Path.{_≡_, refl, sym, ap, _∙_, subst}
-use mathlib.Core.Bool.{Bool, true, false, cond}
+use mathlib.Core.Bool.{Bool, false, cond}
 use mathlib.Core.Logic.{_⊎_, inl, inr}
 use Prim.Native.Nat.{ℕ, suc, _+_, _-_, _*_, _/_, _%_, _^_, min, _≤_, _<_}
-use native.Mathlib.Nat.{eq-zero-or-pos, min-eq-left, min-eq-right, min-le-right, mul-one, div-eq-of-lt, mul-pos, mul-le-mul-left, le-trans, le-of-eq, lt-of-lt-of-le}
+use native.Mathlib.Nat.{eq-zero-or-pos, min-eq-left, min-eq-right, min-le-right}
 use native.Mathlib.Omega.{arith}
 use borrow.Author.Tests.{lt-leb, le-leb, ne-eqb}
-use lib.Arith.{le-zero}
 use lib.Dec.{T, leb, lit≤}
-use lib.Pow.{pow-mono, pow-pos}
 use lib.IntN.{ℤ, pos, negsuc}
 use lib.Ieee as Ieee
-use lib.Ieee.{Float, nan, inf, fin, binary32, binary64, up, down, minus, size, odd, units, round, ofFields, ofBits, le}
+use lib.Ieee.{Float, inf, fin, binary32, binary64, up, down, minus, odd, round, ofFields, ofBits}
 use lib.Ieee.Bits.{ofBits-fits}
-use lib.Ieee.Fits.{round-is}
-use lib.Ieee.Nearest.{closest, closest-mono}
-use lib.Ieee.Order.{round-mono}
 use Rattle.std.specs.Floats.{nearestIn}
 use Rattle.power.specs.Rules.{Number}
 use Rattle.power.specs.Lookup.{f64}
+use Rattle.power.proofs.Ends.{pow-over, pow-under}
 use Rattle.power.proofs.Scaling.{field}
 
 abbrev held : ℤ → ℤ
@@ -63,35 +59,6 @@ field-number j = subst Number (sym e) (subst (λ (x : Float). T (Ieee.fits binar
 
 -- ---- the f32
 
--- only ∞ is as large as ∞
-top : (x : Float) → T (le (inf false) x) → x ≡ inf false
-unfolding le
-top nan t = absurd t
-top (inf true) t = absurd t
-top (inf false) t = refl
-top (fin s m e) t = absurd t
-
--- from 2^128 on
-pub overflows : (a : ℕ) → 128 ≤ a → round binary32 false (1 * 2 ^ a) 1 ≡ inf false
-unfolding round
-overflows a h =
-    let larger : 2 ^ 128 * 1 ≤ 1 * 2 ^ a * 1 = omega (arith, pow-mono {i = 128} {j = a} h) in
-    top (round binary32 false (1 * 2 ^ a) 1) (round-mono binary32 (2 ^ 128) 1 (1 * 2 ^ a) 1 (lit≤ tt) (lit≤ tt) larger)
-
--- below 2^-150
-pub underflows : (a : ℕ) → 150 ≤ a → round binary32 false (1 * 1) (2 ^ suc a) ≡ fin false 0 (pos 0)
-unfolding units size
-underflows a h =
-    let d = 2 ^ suc a in
-    let n = 2 ^ 149 in
-    let D : 2 ^ 151 ≤ d = pow-mono {i = 151} {j = suc a} (omega arith) in
-    let small : n < d = lt-of-lt-of-le (lit≤ tt) D in
-    let none : n / d ≡ 0 = div-eq-of-lt small in
-    let le0 : closest n (d * 1) ≤ closest n (2 ^ 151) = closest-mono n (d * 1) n (2 ^ 151) (mul-pos (pow-pos (suc a)) (lit≤ tt)) (lit≤ tt) (mul-le-mul-left n (le-trans D (le-of-eq (sym (mul-one d))))) in
-    round-is binary32 false (1 * 1) d
-    ∙ ap (λ (z : ℕ). units binary32 false (closest n (d * 2 ^ (size z - 24))) (size z - 24)) none
-    ∙ ap (λ (z : ℕ). units binary32 false z 0) (le-zero le0)
-
 -- the power that is held rounds as the power itself
 pub held-rounded : (j : ℤ) → nearestIn binary32 (fin false 1 (held j)) ≡ round binary32 false (1 * up j) (down j)
 unfolding nearestIn
@@ -101,11 +68,11 @@ held-rounded (pos a) = go (eq-zero-or-pos (a - 512))
     go (inl z) = ap (λ (b : ℕ). round binary32 false (1 * 2 ^ b) 1) (min-eq-left {n = a} {m = 512} (omega arith))
     go (inr p) =
         ap (λ (b : ℕ). round binary32 false (1 * 2 ^ b) 1) (min-eq-right {n = 512} {m = a} (omega arith))
-        ∙ overflows 512 (lit≤ tt) ∙ sym (overflows a (omega arith))
+        ∙ pow-over 512 (lit≤ tt) ∙ sym (pow-over a (omega arith))
 held-rounded (negsuc a) = go (eq-zero-or-pos (a - 511))
   where
     go : (a - 511 ≡ 0) ⊎ (0 < a - 511) → round binary32 false (1 * 1) (2 ^ suc (min a 511)) ≡ round binary32 false (1 * 1) (2 ^ suc a)
     go (inl z) = ap (λ (b : ℕ). round binary32 false (1 * 1) (2 ^ suc b)) (min-eq-left {n = a} {m = 511} (omega arith))
     go (inr p) =
         ap (λ (b : ℕ). round binary32 false (1 * 1) (2 ^ suc b)) (min-eq-right {n = 511} {m = a} (omega arith))
-        ∙ underflows 511 (lit≤ tt) ∙ sym (underflows a (omega arith))
+        ∙ pow-under 511 (lit≤ tt) ∙ sym (pow-under a (omega arith))

@@ -107,7 +107,7 @@ same-ratio : (t p q : ℕ) → q ≡ p * 2 ^ 52 → (2 ^ 52 + t * 2 ^ 29) * p * 
 same-ratio t p q e = rw e (omega arith)
 
 -- the significand of the fraction bits t is (2^23 + t) / 2^23
-pub significand-is : (b : ℕ) → Is (Reduction.significand b) false (2 ^ 23 + bitAnd b 0x7f_ffff) (2 ^ 23)
+significand-is : (b : ℕ) → Is (Reduction.significand b) false (2 ^ 23 + bitAnd b 0x7f_ffff) (2 ^ 23)
 significand-is b =
     let t = bitAnd b 0x7f_ffff in
     let h : t < 2 ^ 23 = mask-lt b 23 in

@@ -19,7 +19,7 @@ use Rattle.power.specs.Rules.{Is}
 use Rattle.power.specs.Whole.{repeated, product}
 use Rattle.power.proofs.Values.{bounds, value→is}
 use Rattle.power.proofs.Uses.{dyadic, product-terms}
-use Rattle.power.proofs.Multiples.{below-one}
+use Rattle.power.proofs.Multiples.{negative-power}
 use Rattle.power.proofs.Ends.{Tiny, round-over, round-under, round-tiny}
 
 either : (a b : ℕ) → (a ≤ b) ⊎ (b < a)
@@ -206,7 +206,7 @@ rounded : (q : ℕ) (e : ℤ) (k : ℕ) → 0 < q → T (fits binary32 (fin fals
     → nearestIn binary32 (repeated (fin false q e) k) ≡ round binary32 false (q ^ suc k * up (e *ℤ pos (suc k))) (down (e *ℤ pos (suc k)))
 rounded q (pos a) k Q t less few = up-narrowed q a k (repeated (fin false q (pos a)) k) Q (up-all q a Q (fits-widens (fin false q (pos a)) t) k few)
 rounded q (negsuc c) k Q t less few =
-    let p = below-one (suc c * suc k) (mul-pos {m = suc c} {n = suc k} (omega arith) (omega arith)) in
+    let p = negative-power (suc c * suc k) (mul-pos {m = suc c} {n = suc k} (omega arith) (omega arith)) in
     down-narrowed q (suc c) k (repeated (fin false q (negsuc c)) k) Q few (down-all q c Q (bounds binary32 false q (negsuc c) t .few) (fits-widens (fin false q (negsuc c)) t) k less few)
     ∙ (λ i. round binary32 false ((sym (mul-one (q ^ suc k)) ∙ ap (λ (x : ℕ). q ^ suc k * x) (sym (p .0))) i) (sym (p .1) i))
 

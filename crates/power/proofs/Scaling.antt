@@ -15,8 +15,8 @@ use lib.Ieee.Fits.{down-pos}
 use Rattle.std.specs.Floats.{withSign}
 use Rattle.power.specs.Rules.{Is}
 use Rattle.power.specs.Lookup.{f64, exp2Mid}
-use Rattle.power.specs.Fast.{count, hiBits, scale}
-use Rattle.power.proofs.Multiple.{negative}
+use Rattle.power.specs.Fast.{clamped, count, hiBits, scale}
+use Rattle.power.proofs.Multiples.{negative}
 
 -- ---- the count
 
@@ -40,7 +40,7 @@ side s t n (inl z) = ap (moved s) z ∙ both s t ∙ ap (moved t) (sym z)
     both false false = refl
 
 -- the cast of a whole number c
-cast : (n d c : ℕ) → 0 < d → n * 1 ≡ c * d → c ≤ 32768 → min (n / d) (2 ^ 32 - 1) ≡ c
+pub cast : (n d c : ℕ) → 0 < d → n * 1 ≡ c * d → c ≤ 32768 → min (n / d) (2 ^ 32 - 1) ≡ c
 cast n d c D e h =
     let q : n / d ≡ c = ap (λ (x : ℕ). x / d) (sym (mul-one n) ∙ e) ∙ mul-div-cancel c D in
     ap (λ (x : ℕ). min x (2 ^ 32 - 1)) q ∙ min-eq-left (omega arith)
@@ -51,46 +51,37 @@ inside n d c D e q = le-of-mul-le-mul-right (le-trans (le-of-eq (sym e)) (ltb-fa
 outside : (n d c : ℕ) → n * 1 ≡ c * d → ltb (32768 * d) (n * 1) ≡ true → 32768 < c
 outside n d c e q = lt-of-mul-lt-mul-right d (lt-of-lt-of-le (ltb-true (32768 * d) (n * 1) q) (le-of-eq e))
 
-count-positive : (m : ℕ) (e : ℤ) (s : Bool) (c : ℕ) → m * up e * 1 ≡ c * down e → (c ≡ 0) ⊎ (false ≡ s) → count (fin false m e) ≡ moved s (min c 32768)
-unfolding Ieee.lt Ieee.neg Ieee.ofBits Ieee.toUnsigned withSign
-count-positive m e s c w t = go (ltb (32768 * down e) (m * up e * 1)) refl
-  where
-    go : (q : Bool) → ltb (32768 * down e) (m * up e * 1) ≡ q → counted (cond q (fin false 1 (pos 15)) (fin false m e)) ≡ moved s (min c 32768)
-    go true q =
-        let h : 32768 < c = outside (m * up e) (down e) c w q in
-        sym (ap (moved s) (min-eq-right {n = 32768} {m = c} (le-of-lt h)) ∙ ⊎-elim (λ z. absurd (omega arith)) (λ p. ap (λ (b : Bool). moved b 32768) (sym p)) t)
-    go false q =
-        let h : c ≤ 32768 = inside (m * up e) (down e) c (down-pos e) w q in
-        let low : ltb (m * up e * 1) (0 * down e) ≡ false = le-ltb (m * up e * 1) (0 * down e) (omega arith) in
-        (λ i. moved (low i) (cast (m * up e) (down e) c (down-pos e) w h i)) ∙ side false s c t ∙ ap (moved s) (sym (min-eq-left h))
+clamped-is : (u : Bool) (m : ℕ) (e : ℤ) → clamped (fin u m e) ≡ cond (ltb (32768 * down e) (m * up e * 1)) (fin u 1 (pos 15)) (fin u m e)
+unfolding Ieee.lt Ieee.neg Ieee.ofBits
+clamped-is true m e = refl
+clamped-is false m e = refl
 
-count-negative : (m : ℕ) (e : ℤ) (s : Bool) (c : ℕ) → m * up e * 1 ≡ c * down e → (c ≡ 0) ⊎ (true ≡ s) → count (fin true m e) ≡ moved s (min c 32768)
-unfolding Ieee.lt Ieee.neg Ieee.ofBits Ieee.toUnsigned withSign
-count-negative m e s c w t = go (ltb (32768 * down e) (m * up e * 1)) refl
-  where
-    below : (c ≡ 0) ⊎ (ltb 0 (m * up e * 1 + 0 * down e) ≡ true)
-    below =
-        ⊎-elim inl
-        (λ p. inr (lt-ltb 0 (m * up e * 1 + 0 * down e) (let h : 0 < c * down e = mul-pos p (down-pos e) in omega (arith, w, h))))
-        (eq-zero-or-pos c)
+counted-end : (u : Bool) → counted (fin u 1 (pos 15)) ≡ moved u 32768
+unfolding Ieee.lt Ieee.ofBits Ieee.toUnsigned withSign
+counted-end true = refl
+counted-end false = refl
 
-    go : (q : Bool) → ltb (32768 * down e) (m * up e * 1) ≡ q → counted (cond q (fin true 1 (pos 15)) (fin true m e)) ≡ moved s (min c 32768)
-    go true q =
-        let h : 32768 < c = outside (m * up e) (down e) c w q in
-        sym (ap (moved s) (min-eq-right {n = 32768} {m = c} (le-of-lt h)) ∙ ⊎-elim (λ z. absurd (omega arith)) (λ p. ap (λ (b : Bool). moved b 32768) (sym p)) t)
-    go false q =
-        let h : c ≤ 32768 = inside (m * up e) (down e) c (down-pos e) w q in
-        let b = ltb 0 (m * up e * 1 + 0 * down e) in
-        ap (moved b) (cast (m * up e) (down e) c (down-pos e) w h)
-        ∙ side b s c (⊎-elim inl (λ p. ⊎-elim inl (λ q. inr (p ∙ q)) t) below)
-        ∙ ap (moved s) (sym (min-eq-left h))
+counted-is : (u : Bool) (m : ℕ) (e : ℤ) (c : ℕ) → m * up e * 1 ≡ c * down e → c ≤ 32768 → counted (fin u m e) ≡ moved u c
+unfolding Ieee.lt Ieee.ofBits Ieee.toUnsigned withSign
+counted-is true m e c w h =
+    let b = ltb 0 (m * up e * 1 + 0 * down e) in
+    let below : (c ≡ 0) ⊎ (b ≡ true) =
+    ⊎-elim inl (λ p. inr (lt-ltb 0 (m * up e * 1 + 0 * down e) (let g : 0 < c * down e = mul-pos p (down-pos e) in omega (arith, w, g)))) (eq-zero-or-pos c) in
+    ap (moved b) (cast (m * up e) (down e) c (down-pos e) w h) ∙ side b true c below
+counted-is false m e c w h =
+    let low : ltb (m * up e * 1) (0 * down e) ≡ false = le-ltb (m * up e * 1) (0 * down e) (omega arith) in
+    λ i. moved (low i) (cast (m * up e) (down e) c (down-pos e) w h i)
 
 -- of a whole number c, held within 2^15
 count-whole : (h : Float) (s : Bool) (c : ℕ) → Is h s c 1 → count h ≡ moved s (min c 32768)
 count-whole nan s c w = absurd w
 count-whole (inf t) s c w = absurd w
-count-whole (fin true m e) s c w = count-negative m e s c (w .1) (w .2)
-count-whole (fin false m e) s c w = count-positive m e s c (w .1) (w .2)
+count-whole (fin u m e) s c w =
+    ap counted (clamped-is u m e) ∙ go (ltb (32768 * down e) (m * up e * 1)) refl ∙ side u s (min c 32768) (⊎-elim (λ z. inl (ap (λ (x : ℕ). min x 32768) z)) inr (w .2))
+  where
+    go : (q : Bool) → ltb (32768 * down e) (m * up e * 1) ≡ q → counted (cond q (fin u 1 (pos 15)) (fin u m e)) ≡ moved u (min c 32768)
+    go true q = counted-end u ∙ ap (moved u) (sym (min-eq-right {n = 32768} {m = c} (le-of-lt (outside (m * up e) (down e) c (w .1) q))))
+    go false q = let h = inside (m * up e) (down e) c (down-pos e) (w .1) q in counted-is u m e c (w .1) h ∙ ap (moved u) (sym (min-eq-left h))
 
 -- ---- the exponent field
 

@@ -1,9 +1,9 @@
 -- The stages of the fast path at a power of two, where the reduced argument is zero: each is exact.
 use mathlib.Core.Path.{_≡_, refl, sym, ap, _∙_, subst}
-use mathlib.Core.Bool.{Bool, true, false, not}
+use mathlib.Core.Bool.{Bool, false, not}
 use mathlib.Core.Logic.{_⊎_, inl, inr, ⊎-elim}
 use Prim.Native.Nat.{ℕ, _+_, _*_, _/_, _^_, _≤_, _<_}
-use native.Mathlib.Nat.{le-trans, le-of-eq, le-of-lt, lt-of-le-of-lt, mul-comm, mul-assoc, mul-left-comm, mul-right-comm, mul-one, one-mul, zero-mul, mul-le-mul-right, mul-le-mul-left, le-of-mul-le-mul-right, eq-of-mul-eq-mul-right, mul-pos}
+use native.Mathlib.Nat.{le-trans, le-of-eq, le-of-lt, lt-of-le-of-lt, mul-comm, mul-assoc, mul-left-comm, mul-right-comm, mul-one, one-mul, zero-mul, mul-zero, mul-le-mul-right, mul-le-mul-left, le-of-mul-le-mul-right, eq-of-mul-eq-mul-right, mul-pos}
 use native.Mathlib.Omega.{arith}
 use lib.Arith.{digits-div}
 use lib.Dec.{T, lit≤}
@@ -13,19 +13,22 @@ use lib.Ieee as Ieee
 use lib.Ieee.{Float, nan, inf, fin, binary32, binary64, up, down, unlike, round, fits}
 use lib.Ieee.Exact.{round-exact}
 use lib.Ieee.Fits.{down-pos, round-fits, fits-widens}
-use Rattle.std.specs.Floats.{halfUp}
+use Rattle.std.specs.Floats.{halfUp, one as unit}
 use Rattle.power.specs.Backend.{Scalar}
 use Rattle.power.specs.Rules.{ScalarRules, Is, Within, sign, num, den}
-use Rattle.power.specs.Lookup.{f64, log2R, log2RTd}
+use Rattle.power.specs.Lookup.{log2R, log2RTd}
 use Rattle.power.specs.ExactCases.{Times}
 use Rattle.power.specs.Fast.{log, y64, restHigh, rest, expPoly}
 use Rattle.power.specs.declared.reduction.Reduced.{Reduced}
 use Rattle.power.proofs.Values.{bounds, in-units, den-pos, cross, number, signs, value→is, scale-is}
+use Rattle.power.proofs.Unique.{no-factor}
 use Rattle.power.proofs.Uses.{within, product-terms}
-use Rattle.power.proofs.Zeros.{unit, IsZero, neg-number}
-use Rattle.power.proofs.Multiple as Multiple
-use Rattle.power.proofs.Multiple.{negative}
-use Rattle.power.proofs.ZeroProducts.{Same, moderate, coefficient, IsProduct, zero-within, same-is, same-zero, turn, fma-zero-left, fma-zero-right, fma-cancels, six-zero, zero-plus, plus-zero, times-whole}
+use Rattle.power.proofs.Alike.{IsZero, zero-within, same-is, same-zero, turn, alike-other}
+use Rattle.power.proofs.Zeros.{unlike-comm, unlike-false, neg-number, zero-plus, plus-zero}
+use Rattle.power.proofs.Multiples as Multiples
+use Rattle.power.proofs.Multiples.{negative}
+use Rattle.power.proofs.ZeroProducts.{IsProduct, fma-zero-left, fma-zero-right, fma-cancels, times-whole}
+use Rattle.power.proofs.ZeroPolynomials.{six-zero, f64-at-zero}
 use Rattle.power.proofs.PowerReduction.{At}
 
 -- ---- log2 x
@@ -34,22 +37,18 @@ table-zero : IsZero (log2R 0)
 unfolding log2R Ieee.ofBits fits
 table-zero = (tt, refl)
 
-middle-zero : IsZero (log2RTd 0 .1)
+parts-zero : IsZero (log2RTd 0 .1) × IsZero (log2RTd 0 .2)
 unfolding log2RTd Ieee.ofBits fits
-middle-zero = (tt, refl)
-
-high-zero : IsZero (log2RTd 0 .2)
-unfolding log2RTd Ieee.ofBits fits
-high-zero = (tt, refl)
+parts-zero = ((tt, refl), (tt, refl))
 
 -- log2 2^k is k
-pub log-is : (m : Scalar) → ScalarRules m → (k : ℤ) (r : Reduced) → At k r → Is (log m r) (negative k) (natAbs k) 1
+log-is : (m : Scalar) → ScalarRules m → (k : ℤ) (r : Reduced) → At k r → Is (log m r) (negative k) (natAbs k) 1
 log-is m K k r A =
     let E = r .exponent in
     let t = log2R (r .index) in
     let c = Ieee.add binary64 t E in
     let Z : IsZero t = subst (λ (i : ℕ). IsZero (log2R i)) (sym (A .index)) table-zero in
-    let is : Is c (negative k) (natAbs k) 1 = same-is c E (negative k) (natAbs k) 1 (zero-plus t E Z (number E (negative k) (natAbs k) 1 (A .exponent))) (A .exponent) in
+    let is : Is c (negative k) (natAbs k) 1 = same-is c E (negative k) (natAbs k) 1 (zero-plus t E (Z .1) (number E (negative k) (natAbs k) 1 (A .exponent))) (A .exponent) in
     let small : natAbs k ≤ 2 ^ 512 = le-trans (A .few) (lit≤ tt) in
     same-is (log m r) c (negative k) (natAbs k) 1
     (fma-zero-left m K (r .dx) (r .p) c (A .dx) (A .p) (within 512 c (negative k) (natAbs k) 1 (lit≤ tt) (lit≤ tt) small is)) is
@@ -59,8 +58,8 @@ high-is : (k : ℤ) (r : Reduced) → At k r → Is (Ieee.add binary64 (r .expon
 high-is k r A =
     let E = r .exponent in
     let t = log2RTd (r .index) .2 in
-    let Z : IsZero t = subst (λ (i : ℕ). IsZero (log2RTd i .2)) (sym (A .index)) high-zero in
-    same-is (Ieee.add binary64 E t) E (negative k) (natAbs k) 1 (plus-zero E t (number E (negative k) (natAbs k) 1 (A .exponent)) Z) (A .exponent)
+    let Z : IsZero t = subst (λ (i : ℕ). IsZero (log2RTd i .2)) (sym (A .index)) (parts-zero .1) in
+    same-is (Ieee.add binary64 E t) E (negative k) (natAbs k) 1 (plus-zero E t (number E (negative k) (natAbs k) 1 (A .exponent)) (Z .1)) (A .exponent)
 
 -- ---- 64 y
 
@@ -75,12 +74,8 @@ no-overflow m u l v d D e h =
     let p : m * v * d ≡ m * u * l = mul-assoc m v d ∙ ap (λ (x : ℕ). m * x) (sym e) ∙ sym (mul-assoc m u l) in
     le-of-mul-le-mul-right (le-trans (le-of-eq p) (le-trans (mul-le-mul-right l h) (le-of-eq (mul-right-comm (2 ^ 32) d l)))) D
 
-unlike-false : (s : Bool) → unlike s false ≡ s
-unlike-false true = refl
-unlike-false false = refl
-
 -- the product in f32 is exact
-pub y64-is : (s : Bool) (m : ℕ) (e : ℤ) → T (fits binary32 (fin s m e)) → m * up e ≤ 2 ^ 32 * down e → Is (y64 (fin s m e)) s (m * up e * 64) (down e)
+y64-is : (s : Bool) (m : ℕ) (e : ℤ) → T (fits binary32 (fin s m e)) → m * up e ≤ 2 ^ 32 * down e → Is (y64 (fin s m e)) s (m * up e * 64) (down e)
 unfolding Ieee.mul Ieee.ofBits
 y64-is s m e t h =
     let b = bounds binary32 s m e t in
@@ -128,7 +123,7 @@ multiplied k j (fin s m g) h t l e =
     let d = down g in
     let is = y64-is s m g t l in
     let fine : d ≤ 2 ^ 149 = bounds binary32 s m g t .fine in
-    let size = Multiple.sizes s k j n d e in
+    let size = Multiples.sizes s k j n d e in
     record {
       minus = s;
       n = n;
@@ -137,7 +132,7 @@ multiplied k j (fin s m g) h t l e =
       is = is;
       within = within 400 (y64 (fin s m g)) s (n * 64) d (down-pos g) (le-trans fine (lit≤ tt)) (bounded-numerator n d fine l) is;
       size = size;
-      signs = Multiple.signs s k j n d (down-pos g) e;
+      signs = Multiples.signs s k j n d (down-pos g) e;
       few = few-multiples (natAbs k) n (natAbs j) d (down-pos g) h l size;
     }
 
@@ -154,10 +149,10 @@ multiple k j y6 a M A =
     (product-terms (natAbs k) (M .n * 64) 1 (M .d) (num a) (den a) (num y6) (den y6) (cross a (negative k) (natAbs k) 1 A) (cross y6 (M .minus) (M .n * 64) (M .d) (M .is)))
 
 none-left : (a n b d : ℕ) → 0 < d → a * n ≡ b * d → (a ≡ 0) ⊎ (n * 64 ≡ 0) → b * 64 ≡ 0
-none-left a n b d D e z = ap (λ (i : ℕ). i * 64) (eq-of-mul-eq-mul-right d D b 0 (sym e ∙ ⊎-elim (λ p. ap (λ (i : ℕ). i * n) p ∙ zero-mul n) (λ q. no-right (omega arith)) z ∙ sym (zero-mul d)))
+none-left a n b d D e z = ap (λ (i : ℕ). i * 64) (no-factor b d D (sym e ∙ ⊎-elim (λ p. ap (λ (i : ℕ). i * n) p ∙ zero-mul n) (λ q. no-right (omega arith)) z))
   where
     no-right : n ≡ 0 → a * n ≡ 0
-    no-right p = ap (λ (i : ℕ). a * i) p ∙ omega arith
+    no-right p = ap (λ (i : ℕ). a * i) p ∙ mul-zero a
 
 multiple-sign : (k j : ℤ) (y6 a : Float) → Multiplied k j y6 → Is a (negative k) (natAbs k) 1 → (natAbs j * 64 ≡ 0) ⊎ (unlike (sign a) (sign y6) ≡ negative j)
 multiple-sign k j y6 a M A =
@@ -201,12 +196,6 @@ neg-is nan s n d w = w
 neg-is (inf t) s n d w = w
 neg-is (fin t m e) s n d w = (neg-number (fin t m e) (w .0), w .1, ⊎-elim inl (λ h. inr (ap not h)) (w .2))
 
-pub unlike-comm : (s t : Bool) → unlike s t ≡ unlike t s
-unlike-comm true true = refl
-unlike-comm true false = refl
-unlike-comm false true = refl
-unlike-comm false false = refl
-
 -- nothing, in the high part
 pub rest-high-zero : (m : Scalar) → ScalarRules m → (k j : ℤ) (r : Reduced) (y6 h : Float) → At k r → Multiplied k j y6 → Is h (negative j) (natAbs j * 64) 1
     → IsZero (restHigh m r y6 h)
@@ -228,23 +217,13 @@ rest-high-zero m K k j r y6 h A M w =
 pub rest-zero : (m : Scalar) → ScalarRules m → (k : ℤ) (r : Reduced) (y6 high : Float) → At k r → Within 400 y6 → IsZero high → IsZero (rest m r y6 high)
 rest-zero m K k r y6 high A W H =
     let t = log2RTd (r .index) .1 in
-    let Z : IsZero t = subst (λ (i : ℕ). IsZero (log2RTd i .1)) (sym (A .index)) middle-zero in
+    let Z : IsZero t = subst (λ (i : ℕ). IsZero (log2RTd i .1)) (sym (A .index)) (parts-zero .0) in
     let i = m .fma (r .dx) (r .p) t in
     let inner : IsZero i = same-zero i t (fma-zero-left m K (r .dx) (r .p) t (A .dx) (A .p) (zero-within 512 t Z)) (Z .1) in
     same-zero (rest m r y6 high) high (fma-zero-right m K y6 i high W inner (zero-within 512 high H)) (H .1)
 
 -- ---- 2^0
 
--- a number alike to 1 is 1
-only-one : (x : Float) → Same x unit → x ≡ unit
-only-one x (N, inl e) = e
-only-one x (N, inr Z) = let h = Z .1 in absurd (omega arith)
-
 pub exp-poly-zero : (m : Scalar) → ScalarRules m → (x : Float) → IsZero x → expPoly m x ≡ unit
-unfolding expPoly moderate Ieee.ofBits
-exp-poly-zero m K x Z =
-    only-one (expPoly m x)
-    (six-zero m K x (f64 0x3ff0_0000_0000_0000) (f64 0x3f86_2e42_fefa_39ef) (f64 0x3f0e_bfbd_ff82_a23a)
-    (f64 0x3e8c_6b08_d707_6268) (f64 0x3e03_b2ad_33f8_b48b) (f64 0x3d75_d870_c4d8_4445) Z
-    (coefficient 0x3ff0_0000_0000_0000 tt) (coefficient 0x3f86_2e42_fefa_39ef tt) (coefficient 0x3f0e_bfbd_ff82_a23a tt)
-    (coefficient 0x3e8c_6b08_d707_6268 tt) (coefficient 0x3e03_b2ad_33f8_b48b tt) (coefficient 0x3d75_d870_c4d8_4445 tt))
+unfolding expPoly Ieee.ofBits fits
+exp-poly-zero m K x Z = alike-other (expPoly m x) unit (six-zero (f64-at-zero m K) x _ _ _ _ _ _ Z tt tt tt tt tt tt .1) (λ z. omega arith)

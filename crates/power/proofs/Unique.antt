@@ -46,7 +46,8 @@ value-unique f (fin t m e) (fin u k g) s n d D p q v w =
 
 -- ---- zeros
 
-no-factor : (a b : ℕ) → 0 < b → a * b ≡ 0 → a ≡ 0
+-- no product with a positive factor is 0
+pub no-factor : (a b : ℕ) → 0 < b → a * b ≡ 0 → a ≡ 0
 no-factor a b B h = eq-of-mul-eq-mul-right b B a 0 (h ∙ sym (zero-mul b))
 
 pub is-zero : (x : Float) (s : Bool) (n d : ℕ) → 0 < d → n ≡ 0 → Is x s n d → Zero x

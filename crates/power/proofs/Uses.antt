@@ -1,11 +1,10 @@
 -- How a caller uses the rule of fma, on numbers given as fractions. Assumes nothing.
-pub use Rattle.power.proofs.Values.{den-pos, cross, number, signs, turn-is, resign}
 use mathlib.Core.Path.{_≡_, sym, ap, _∙_, subst}
 use mathlib.Core.Bool.{Bool}
 use mathlib.Core.Logic.{_⊎_, inl, inr, ⊎-elim}
 use Prim.Native.Nat.{ℕ, _+_, _-_, _*_, _^_, _≤_, _<_}
 use native.Mathlib.Nat.{le-trans, le-of-eq, lt-of-lt-of-le, mul-assoc, mul-comm, mul-left-comm, mul-one, one-mul, zero-mul}
-use native.Mathlib.Nat.{mul-pos, mul-le-mul-right, mul-le-mul-left, eq-of-mul-eq-mul-right, eq-zero-or-pos}
+use native.Mathlib.Nat.{mul-pos, mul-le-mul-right, mul-le-mul-left, eq-zero-or-pos}
 use native.Mathlib.Omega.{arith}
 use lib.Pow.{pow-add, pow-pos, pow-mono, shl-lt}
 use lib.Ieee.{Float, binary64, unlike, round}
@@ -14,7 +13,8 @@ use lib.Ieee.Fits.{round-fits}
 use lib.Ieee.Exact.{round-exact}
 use Rattle.power.specs.Backend.{Scalar}
 use Rattle.power.specs.Rules.{ScalarRules, Is, IsSum, Product, MulAdd, Within, sign, num, den}
-use Rattle.power.proofs.Values.{value→is, scale-is, scale-sum}
+use Rattle.power.proofs.Values.{den-pos, cross, number, signs, turn-is, value→is, scale-is, scale-sum, resign}
+use Rattle.power.proofs.Unique.{no-factor}
 
 -- ---- numbers given as fractions
 
@@ -35,7 +35,7 @@ high-end a b n d k D h e = le-trans (le-trans (le-of-eq (sym (mul-one a))) (mul-
 
 -- a / b, which is n / d, is 0 if n is
 none : (n d a b : ℕ) → 0 < d → a * d ≡ n * b → n ≡ 0 → a ≡ 0
-none n d a b D e z = eq-of-mul-eq-mul-right d D a 0 (e ∙ ap (λ (x : ℕ). x * b) z ∙ zero-mul b ∙ sym (zero-mul d))
+none n d a b D e z = no-factor a d D (e ∙ ap (λ (x : ℕ). x * b) z ∙ zero-mul b)
 
 -- n / d is within 2^±k if n and d are at most 2^k
 pub within : (k : ℕ) (x : Float) (s : Bool) (n d : ℕ) → 0 < d → d ≤ 2 ^ k → n ≤ 2 ^ k → Is x s n d → Within k x
@@ -66,7 +66,7 @@ product-terms n k d e na da nb db p q =
     l ∙ ap (λ (x : ℕ). x * (k * db)) (sym p) ∙ ap (λ (x : ℕ). na * d * x) (sym q) ∙ sym r
 
 -- a product with a zero
-pub nothing : (n d na da nb : ℕ) → 0 < d → na * d ≡ n * da → n ≡ 0 → na * nb ≡ 0
+nothing : (n d na da nb : ℕ) → 0 < d → na * d ≡ n * da → n ≡ 0 → na * nb ≡ 0
 nothing n d na da nb D p z = ap (λ (x : ℕ). x * nb) (none n d na da D p z) ∙ zero-mul nb
 
 -- ---- fma

@@ -1,11 +1,9 @@
 -- Powers of opposite bases under one whole exponent.
-use mathlib.Core.Bool.{Bool, true, false}
-use mathlib.Core.Logic.{_⊎_}
+use mathlib.Core.Bool.{false}
 use mathlib.Core.Path.{_≡_}
-use lib.Ieee.{Float, nan, inf, fin, neg}
+use lib.Ieee.{Float, nan, neg}
 use Rattle.std.specs.Floats.{withSign}
-use Rattle.pairs.specs.Whole.{odd}
-use Rattle.power.specs.Rules.{Zero, sign}
+use Rattle.power.specs.Rules.{Zero}
 use Rattle.power.specs.SpecialCases.{Not, Finite, Whole, Odd}
 
 -- r and t differ in nothing but, perhaps, the sign

@@ -1,14 +1,13 @@
 -- The special cases of IEEE 754-2019, 9.2.1, `pow`: what they say of x, y and an answer r.
-use mathlib.Core.Bool.{Bool, true, false, cond}
-use mathlib.Core.Logic.{_⊎_}
+use mathlib.Core.Bool.{Bool, true, false}
 use mathlib.Core.Path.{_≡_}
-use Prim.Native.Nat.{ℕ, _*_, _<_}
+use Prim.Native.Nat.{_*_, _<_}
 use lib.Dec.{T}
 use lib.Ieee.{Float, nan, inf, fin}
 use lib.IntN.{pos}
 use Rattle.std.specs.Floats.{zero, one}
 use Rattle.pairs.specs.Whole.{whole, odd}
-use Rattle.power.specs.Rules.{Zero, sign, num, den}
+use Rattle.power.specs.Rules.{Zero, num, den}
 
 -- ---- words
 

@@ -1,6 +1,10 @@
 // The power of any two f32.
 ghost use mathlib.Core.Path.{_≡_};
+ghost use lib.Ieee.{neg};
 ghost use Rattle.power.specs.Powf as Powf;
+ghost use Rattle.power.specs.SpecialCases.{Special, NegativeZero};
+ghost use Rattle.power.specs.ExactCases.{ExactCase, roundedOnce, truePower};
+ghost use Rattle.power.specs.Opposites.{Opposite};
 use crate::backend::PowfBackend;
 use crate::fallback::fallback;
 use crate::fast::Outcome;
@@ -90,7 +94,11 @@ fn powf_gen<B: PowfBackend>(x: f32, y: f32, backend: &B) -> f32
 
 // x^y on the backend that the caller names.
 pub fn f_powf<B: PowfBackend>(x: f32, y: f32, backend: &B) -> f32
-    ensures { λ r. ⌜ r ≡ Powf.power (B·PowfBackend .meaning (now (backend .entry))) x y ⌝ }
+    ensures value { λ r. ⌜ r ≡ Powf.power (B·PowfBackend .meaning (now (backend .entry))) x y ⌝ }
+    ensures special { λ r. ⌜ Special x y r ⌝ }
+    ensures negative_zero { λ r. ⌜ NegativeZero x y r ⌝ }
+    ensures exact { λ r. ⌜ ((c : ExactCase x y) → r ≡ roundedOnce (truePower c)) ⌝ }
+    ensures opposite { λ r. ⌜ Opposite x y r (Powf.power (B·PowfBackend .meaning (now (backend .entry))) (neg x) y) ⌝ }
 {
     powf_gen(x, y, backend)
 }
