@@ -1,6 +1,6 @@
 -- Whole and odd numbers, and what the two tests of an exponent answer.
 use mathlib.Core.Bool.{Bool, true, false, _&&_}
-use Prim.Native.Nat.{ℕ, zero, suc, _*_, _/_, _%_}
+use Prim.Native.Nat.{zero, suc, _*_, _/_, _%_}
 use lib.Dec.{eqb}
 use lib.Ieee.{Float, nan, inf, fin, up, down}
 

@@ -13,9 +13,8 @@ use Rattle.pairs.specs.Fused.{fusedSum, fusedParts}
 use Rattle.pairs.proofs.Integers.{signed-mul, signed-mul-pos}
 use Rattle.pairs.proofs.Units.{value-digits}
 use Rattle.pairs.proofs.Fusing.{exact-fused}
-use Rattle.power.specs.Rules.{Number, Within, IsSum, MulAdd, sign, num, den}
+use Rattle.power.specs.Rules.{FmaExact, Number, Within, IsSum, MulAdd, sign, num, den}
 use Rattle.power.proofs.Values.{den-pos, scale-sum}
-use Rattle.power.proofs.FmaProducts.{FmaRule}
 use Rattle.power.proofs.InUnits.{Counts, number-fits, count, own-value, within-moderate, within-bounded, sum-number, sum→units, units→sum}
 
 -- the result is a value of f64
@@ -86,7 +85,7 @@ module _ (a b c : Float) (x y z : ℕ) (p : Counts a x) (q : Counts b y) (r : Co
       let at = sum→units v s (x * y) (sign c) (z * L) L S w V in
       out (fusedSum a b c) (units→sum (fusedSum a b c) s (x * y) (sign c) (z * L) L S (fused-fits a b c) (same-units v S A B C N V w) at)
 
-pub fused-rule : FmaRule fusedSum
+pub fused-rule : FmaExact fusedSum
 fused-rule a b c p r A B C P M =
     let x = count a (A .0) in
     let y = count b (B .0) in

@@ -68,7 +68,7 @@ sum-is m K x R =
     let n-le : n ≤ 2 ^ 24 = few s n (R .bound) in
     let S = sum-number (unlike s false) false (n * 2 ^ 14 * 1) (2 ^ 37) 31 (omega arith) (lit≤ tt) in
     shifted s n (m .fma x factor shift) (R .bound)
-    (use-fma m K x factor shift (round binary64 (unlike s false) (n * 2 ^ 14) (2 ^ 31)) (S .0)
+    (use-fma (m .fma) (K .fma-exact) x factor shift (round binary64 (unlike s false) (n * 2 ^ 14) (2 ^ 31)) (S .0)
     s false false n (2 ^ 31) (2 ^ 14) 1 64 1
     (lit≤ tt) (lit≤ tt) (lit≤ tt) (lit≤ tt) (lit≤ tt) (lit≤ tt) (le-trans n-le (lit≤ tt)) (lit≤ tt) (lit≤ tt)
     (R .is) (tt, refl, inr refl) (tt, refl, inr refl) refl refl

@@ -84,7 +84,7 @@ pub one-less-one : (m : Scalar) → ScalarRules m → IsZero (m .fma one one min
 unfolding Ieee.ofBits Ieee.neg fits
 one-less-one m K =
     let within : (s : Bool) (k : ℕ) → Within k (fin s 1 (pos 0)) = λ s k. (tt, inr (omega (arith, pow-pos k), omega (arith, pow-pos k))) in
-    fma-cancels m K unit unit (fin true 1 (pos 0)) 1 (within false 400) (within false 400) (within true 512) (lit≤ tt) refl (tt, refl, inr refl)
+    fma-cancels (m .fma) (K .fma-exact) unit unit (fin true 1 (pos 0)) 1 (within false 400) (within false 400) (within true 512) (lit≤ tt) refl (tt, refl, inr refl)
 
 -- a significand of 1 is reduced to nothing
 dx-zero : (m : Scalar) → ScalarRules m → (b : ℕ) → bitAnd b 0x7f_ffff ≡ 0 → IsZero (Reduction.dx m b)

@@ -165,7 +165,7 @@ first-range m K b =
     let same : N * 1 ≡ N = mul-one N in
     let S = sum-number false true (N * 1) (2 ^ 31) 31 (omega arith) (lit≤ tt) in
     small (Reduction.dx m b) (N * 1) (omega arith) (omega arith)
-    (use-fma m K (Reduction.significand b) r Reduction.minusOne (round binary64 false N (2 ^ 31)) (S .0)
+    (use-fma (m .fma) (K .fma-exact) (Reduction.significand b) r Reduction.minusOne (round binary64 false N (2 ^ 31)) (S .0)
     false false true (2 ^ 23 + t) (2 ^ 23) k 256 1 1
     (lit≤ tt) (lit≤ tt) (lit≤ tt) (lit≤ tt) (lit≤ tt) (lit≤ tt) (le-trans (omega arith) (lit≤ {m = 2 ^ 24} tt)) (le-trans (R .size-most) (lit≤ tt)) (lit≤ tt)
     (significand-is b) (R .is) minus-one (entry-sign r t R) minus-sign

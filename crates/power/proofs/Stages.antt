@@ -51,7 +51,7 @@ log-is m K k r A =
     let is : Is c (negative k) (natAbs k) 1 = same-is c E (negative k) (natAbs k) 1 (zero-plus t E (Z .1) (number E (negative k) (natAbs k) 1 (A .exponent))) (A .exponent) in
     let small : natAbs k ≤ 2 ^ 512 = le-trans (A .few) (lit≤ tt) in
     same-is (log m r) c (negative k) (natAbs k) 1
-    (fma-zero-left m K (r .dx) (r .p) c (A .dx) (A .p) (within 512 c (negative k) (natAbs k) 1 (lit≤ tt) (lit≤ tt) small is)) is
+    (fma-zero-left (m .fma) (K .fma-exact) (r .dx) (r .p) c (A .dx) (A .p) (within 512 c (negative k) (natAbs k) 1 (lit≤ tt) (lit≤ tt) small is)) is
 
 -- the high part of it in three parts is k too
 high-is : (k : ℤ) (r : Reduced) → At k r → Is (Ieee.add binary64 (r .exponent) (log2RTd (r .index) .2)) (negative k) (natAbs k) 1
@@ -209,7 +209,7 @@ rest-high-zero m K k j r y6 h A M w =
     ⊎-elim inl (λ p. inr (ap not (sym p ∙ unlike-comm (sign e) (sign y6)))) (multiple-sign k j y6 e M E) in
     let product : IsProduct y6 e n = mul-comm (num y6) (num e) ∙ multiple k j y6 e M E ∙ ap (λ (i : ℕ). n * i) (mul-comm (den e) (den y6)) in
     let minus : Is (Ieee.neg h) (not (negative j)) n 1 = neg-is h (negative j) n 1 w in
-    fma-cancels m K y6 e (Ieee.neg h) n (M .within) (within 400 e (negative k) (natAbs k) 1 (lit≤ tt) (lit≤ tt) (le-trans (A .few) (lit≤ tt)) E)
+    fma-cancels (m .fma) (K .fma-exact) y6 e (Ieee.neg h) n (M .within) (within 400 e (negative k) (natAbs k) 1 (lit≤ tt) (lit≤ tt) (le-trans (A .few) (lit≤ tt)) E)
     (within 512 (Ieee.neg h) (not (negative j)) n 1 (lit≤ tt) (lit≤ tt) (le-trans (le-of-lt small) (lit≤ tt)) minus) small product
     (turn (Ieee.neg h) (not (negative j)) (not s) n 1 turned minus)
 
@@ -219,8 +219,8 @@ rest-zero m K k r y6 high A W H =
     let t = log2RTd (r .index) .1 in
     let Z : IsZero t = subst (λ (i : ℕ). IsZero (log2RTd i .1)) (sym (A .index)) (parts-zero .0) in
     let i = m .fma (r .dx) (r .p) t in
-    let inner : IsZero i = same-zero i t (fma-zero-left m K (r .dx) (r .p) t (A .dx) (A .p) (zero-within 512 t Z)) (Z .1) in
-    same-zero (rest m r y6 high) high (fma-zero-right m K y6 i high W inner (zero-within 512 high H)) (H .1)
+    let inner : IsZero i = same-zero i t (fma-zero-left (m .fma) (K .fma-exact) (r .dx) (r .p) t (A .dx) (A .p) (zero-within 512 t Z)) (Z .1) in
+    same-zero (rest m r y6 high) high (fma-zero-right (m .fma) (K .fma-exact) y6 i high W inner (zero-within 512 high H)) (H .1)
 
 -- ---- 2^0
 

@@ -41,7 +41,7 @@ not-64 e = omega arith
 shifted : (m : Scalar) → ScalarRules m → (x : Float) → IsZero x → m .fma x factor shift ≡ sixty-four
 unfolding ofBits fits
 shifted m K x Z =
-    alike-other (m .fma x factor shift) sixty-four (fma-zero-left m K x factor shift Z (tt, inr (lit≤ tt, lit≤ tt)) (tt, inr (lit≤ tt, lit≤ tt)) .1) not-64
+    alike-other (m .fma x factor shift) sixty-four (fma-zero-left (m .fma) (K .fma-exact) x factor shift Z (tt, inr (lit≤ tt, lit≤ tt)) (tt, inr (lit≤ tt, lit≤ tt)) .1) not-64
 
 rounded : (m : Scalar) → ScalarRules m → m .round sixty-four ≡ sixty-four
 unfolding fits

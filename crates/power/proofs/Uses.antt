@@ -11,8 +11,7 @@ use lib.Ieee.{Float, binary64, unlike, round}
 use lib.Ieee.Digits.{back}
 use lib.Ieee.Fits.{round-fits}
 use lib.Ieee.Exact.{round-exact}
-use Rattle.power.specs.Backend.{Scalar}
-use Rattle.power.specs.Rules.{ScalarRules, Is, IsSum, Product, MulAdd, Within, sign, num, den}
+use Rattle.power.specs.Rules.{FmaExact, Is, IsSum, Product, MulAdd, Within, sign, num, den}
 use Rattle.power.proofs.Values.{den-pos, cross, number, signs, turn-is, value→is, scale-is, scale-sum, resign}
 use Rattle.power.proofs.Unique.{no-factor}
 
@@ -72,12 +71,12 @@ nothing n d na da nb D p z = ap (λ (x : ℕ). x * nb) (none n d na da D p z) �
 -- ---- fma
 
 -- where a b and a b + c are values, fma answers a b + c
-pub use-fma : (m : Scalar) → ScalarRules m → (a b c p r : Float) (s t u : Bool) (n d k e l g : ℕ)
+pub use-fma : (fma : Float → Float → Float → Float) → FmaExact fma → (a b c p r : Float) (s t u : Bool) (n d k e l g : ℕ)
     → 0 < d → 0 < e → 0 < g → d ≤ 2 ^ 400 → e ≤ 2 ^ 400 → g ≤ 2 ^ 512 → n ≤ 2 ^ 400 → k ≤ 2 ^ 400 → l ≤ 2 ^ 512
     → Is a s n d → Is b t k e → Is c u l g → sign b ≡ t → sign c ≡ u
     → Is p (unlike s t) (n * k) (d * e) → IsSum r (unlike s t) (n * k * g) u (l * (d * e)) (d * e * g)
-    → IsSum (m .fma a b c) (unlike s t) (n * k * g) u (l * (d * e)) (d * e * g)
-use-fma m R a b c p r s t u n d k e l g D E G d-le e-le g-le n-le k-le l-le A B C b-sign c-sign P S =
+    → IsSum (fma a b c) (unlike s t) (n * k * g) u (l * (d * e)) (d * e * g)
+use-fma fma R a b c p r s t u n d k e l g D E G d-le e-le g-le n-le k-le l-le A B C b-sign c-sign P S =
     let N = num a * num b in
     let M = den a * den b in
     let v = unlike (sign a) (sign b) in
@@ -97,8 +96,8 @@ use-fma m R a b c p r s t u n d k e l g D E G d-le e-le g-le n-le k-le l-le A B 
     subst (λ (w : Bool). IsSum r v (N * den c) w (num c * M) (M * den c)) (sym c-sign)
     (resign r (unlike s t) v u (N * den c) (num c * M) (M * den c) turned
     (scale-sum r (unlike s t) u (n * k * g) (l * (d * e)) (d * e * g) (N * den c) (num c * M) (M * den c) fraction-pos terms-pos first second S)) in
-    let z = m .fma a b c in
-    let got : MulAdd a b c z = R .fma-exact a b c p r (within 400 a s n d D d-le n-le A) (within 400 b t k e E e-le k-le B) (within 512 c u l g G g-le l-le C) product there in
+    let z = fma a b c in
+    let got : MulAdd a b c z = R a b c p r (within 400 a s n d D d-le n-le A) (within 400 b t k e E e-le k-le B) (within 512 c u l g G g-le l-le C) product there in
     scale-sum z (unlike s t) u (N * den c) (num c * M) (M * den c) (n * k * g) (l * (d * e)) (d * e * g) terms-pos fraction-pos (sym first) (sym second)
     (resign z v (unlike s t) u (N * den c) (num c * M) (M * den c) back'
     (subst (λ (w : Bool). IsSum z v (N * den c) w (num c * M) (M * den c)) c-sign got))

@@ -101,7 +101,7 @@ module _ {A : Type 0} {o : Ops A} {test : A → Bool} {Z W : A → Type 0} {S : 
 pub f64-at-zero : (m : Scalar) → ScalarRules m → AtZero (onF64 m) ranged IsZero (Within 400) Same
 f64-at-zero m K = record {
   square = λ x X. mul-zero-left x x X (X .0);
-  step = λ x b c X B C. fma-zero-left m K x b c X B (within-more 400 512 c (lit≤ tt) C);
+  step = λ x b c X B C. fma-zero-left (m .fma) (K .fma-exact) x b c X B (within-more 400 512 c (lit≤ tt) C);
   within = same-within 400;
   trans = same-trans;
   coefficient = ranged-within;

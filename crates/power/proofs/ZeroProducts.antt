@@ -1,4 +1,4 @@
--- fma where the product is zero, or where the sum is: what the rules of a backend give there.
+-- fma where the product is zero, or where the sum is: what the rule of fma gives there.
 use mathlib.Core.Path.{_≡_, refl, sym, ap, _∙_, subst}
 use mathlib.Core.Bool.{Bool, true, false, cond, not, Bool·beq}
 use mathlib.Core.Logic.{_⊎_, inl, inr, ⊎-elim}
@@ -9,8 +9,7 @@ use lib.Dec.{ltb, lit≤}
 use lib.IntN.{pos}
 use lib.Ieee.{Float, nan, inf, fin, binary64, up, down, unlike, round, mul}
 use lib.Ieee.Fits.{down-pos}
-use Rattle.power.specs.Backend.{Scalar}
-use Rattle.power.specs.Rules.{ScalarRules, Is, IsSum, Product, MulAdd, Number, Within, sign, num, den}
+use Rattle.power.specs.Rules.{FmaExact, Is, IsSum, Product, MulAdd, Number, Within, sign, num, den}
 use Rattle.power.proofs.Values.{den-pos, cross, number, signs, own-is, scale-is, resign, round-is-same}
 use Rattle.power.proofs.Unique.{is-zero, is-alike}
 use Rattle.power.proofs.Uses.{dyadic}
@@ -19,28 +18,28 @@ use Rattle.power.proofs.Zeros.{nought-zero, with-none, of-none}
 
 -- ---- a product that is zero
 
-fma-none : (m : Scalar) → ScalarRules m → (a b c : Float) → Within 400 a → Within 400 b → Within 512 c → num a * num b ≡ 0 → Same (m .fma a b c) c
-fma-none m K a b c A B C z =
+fma-none : (fma : Float → Float → Float → Float) → FmaExact fma → (a b c : Float) → Within 400 a → Within 400 b → Within 512 c → num a * num b ≡ 0 → Same (fma a b c) c
+fma-none fma R a b c A B C z =
     let v = unlike (sign a) (sign b) in
     let t = sign c in
     let M = den a * den b in
     let n = num a * num b * den c in
     let k = num c * M in
     let d = M * den c in
-    let x = m .fma a b c in
+    let x = fma a b c in
     let none : n ≡ 0 = ap (λ (i : ℕ). i * den c) z ∙ zero-mul (den c) in
     let d-pos : 0 < d = mul-pos (mul-pos (den-pos a) (den-pos b)) (den-pos c) in
     let is : Is c t k d = scale-is c t (num c) (den c) k d (den-pos c) (sym (mul-assoc (num c) M (den c))) (own-is c (C .0)) in
     let there : MulAdd a b c c = resign c t v t n k d (inl none) (with-none c t n k d none is) in
-    let got : MulAdd a b c x = K .fma-exact a b c (fin v 0 (pos 0)) c A B C (zero-is (fin v 0 (pos 0)) v (num a * num b) M (nought-zero v) z) there in
+    let got : MulAdd a b c x = R a b c (fin v 0 (pos 0)) c A B C (zero-is (fin v 0 (pos 0)) v (num a * num b) M (nought-zero v) z) there in
     let w : Is x t k d = of-none x t n k d none (resign x v t t n k d (inl none) got) in
     (number x t k d w, is-alike x c t k d d-pos w is)
 
-pub fma-zero-left : (m : Scalar) → ScalarRules m → (a b c : Float) → IsZero a → Within 400 b → Within 512 c → Same (m .fma a b c) c
-fma-zero-left m K a b c A B C = fma-none m K a b c (zero-within 400 a A) B C (ap (λ (i : ℕ). i * num b) (zero-num a (A .1)) ∙ zero-mul (num b))
+pub fma-zero-left : (fma : Float → Float → Float → Float) → FmaExact fma → (a b c : Float) → IsZero a → Within 400 b → Within 512 c → Same (fma a b c) c
+fma-zero-left fma R a b c A B C = fma-none fma R a b c (zero-within 400 a A) B C (ap (λ (i : ℕ). i * num b) (zero-num a (A .1)) ∙ zero-mul (num b))
 
-pub fma-zero-right : (m : Scalar) → ScalarRules m → (a b c : Float) → Within 400 a → IsZero b → Within 512 c → Same (m .fma a b c) c
-fma-zero-right m K a b c A B C = fma-none m K a b c A (zero-within 400 b B) C (ap (λ (i : ℕ). num a * i) (zero-num b (B .1)) ∙ mul-zero (num a))
+pub fma-zero-right : (fma : Float → Float → Float → Float) → FmaExact fma → (a b c : Float) → Within 400 a → IsZero b → Within 512 c → Same (fma a b c) c
+fma-zero-right fma R a b c A B C = fma-none fma R a b c A (zero-within 400 b B) C (ap (λ (i : ℕ). num a * i) (zero-num b (B .1)) ∙ mul-zero (num a))
 
 -- ---- a product that is a whole number
 
@@ -104,21 +103,25 @@ sum-zero x s t a b d D e h w = go (Bool·beq s t) (ltb a b) refl w h
     go false true g v k = as-zero t (b - a) (omega arith) v
     go false false g v k = as-zero s (a - b) (omega arith) v
 
--- a b + c, where a b is the whole number N and c is -N
-pub fma-cancels : (m : Scalar) → ScalarRules m → (a b c : Float) (N : ℕ) → Within 400 a → Within 400 b → Within 512 c → N < 2 ^ 53
-    → IsProduct a b N → Is c (not (unlike (sign a) (sign b))) N 1 → IsZero (m .fma a b c)
-fma-cancels m K a b c N A B C h p w =
+-- a b + c, where a b is a value and c is -a b
+pub fma-opposite : (fma : Float → Float → Float → Float) → FmaExact fma → (a b c p : Float) → Within 400 a → Within 400 b → Within 512 c → Product a b p
+    → num a * num b * den c ≡ num c * (den a * den b) → (num a * num b * den c ≡ 0) ⊎ (sign c ≡ not (unlike (sign a) (sign b))) → IsZero (fma a b c)
+fma-opposite fma R a b c p A B C P same opposite =
     let v = unlike (sign a) (sign b) in
-    let M = den a * den b in
     let n = num a * num b * den c in
-    let k = num c * M in
-    let d = M * den c in
-    let x = m .fma a b c in
-    let c-is : num c ≡ N * den c = sym (mul-one (num c)) ∙ cross c (not v) N 1 w in
-    let same : n ≡ k = ap (λ (i : ℕ). i * den c) p ∙ mul-right-comm N M (den c) ∙ ap (λ (i : ℕ). i * M) (sym c-is) in
-    let opposite : (n ≡ 0) ⊎ (sign c ≡ not v) =
-    ⊎-elim (λ z. inl (same ∙ ap (λ (i : ℕ). i * M) (c-is ∙ ap (λ (i : ℕ). i * den c) z ∙ zero-mul (den c)) ∙ zero-mul M)) inr (signs c (not v) N 1 w) in
+    let k = num c * (den a * den b) in
+    let d = den a * den b * den c in
     let r = fin false 0 (pos 0) in
     let there : MulAdd a b c r = zero-sum r v (sign c) n k d (nought-zero false) same opposite in
-    sum-zero x v (sign c) n k d (mul-pos (mul-pos (den-pos a) (den-pos b)) (den-pos c)) same opposite
-    (K .fma-exact a b c (round binary64 v N 1) r A B C (product-value a b N h p) there)
+    sum-zero (fma a b c) v (sign c) n k d (mul-pos (mul-pos (den-pos a) (den-pos b)) (den-pos c)) same opposite (R a b c p r A B C P there)
+
+-- a b + c, where a b is the whole number N and c is -N
+pub fma-cancels : (fma : Float → Float → Float → Float) → FmaExact fma → (a b c : Float) (N : ℕ) → Within 400 a → Within 400 b → Within 512 c → N < 2 ^ 53
+    → IsProduct a b N → Is c (not (unlike (sign a) (sign b))) N 1 → IsZero (fma a b c)
+fma-cancels fma R a b c N A B C h p w =
+    let v = unlike (sign a) (sign b) in
+    let M = den a * den b in
+    let c-is : num c ≡ N * den c = sym (mul-one (num c)) ∙ cross c (not v) N 1 w in
+    let same : num a * num b * den c ≡ num c * M = ap (λ (i : ℕ). i * den c) p ∙ mul-right-comm N M (den c) ∙ ap (λ (i : ℕ). i * M) (sym c-is) in
+    let none : N ≡ 0 → num a * num b * den c ≡ 0 = λ z. same ∙ ap (λ (i : ℕ). i * M) (c-is ∙ ap (λ (i : ℕ). i * den c) z ∙ zero-mul (den c)) ∙ zero-mul M in
+    fma-opposite fma R a b c (round binary64 v N 1) A B C (product-value a b N h p) same (⊎-elim (λ z. inl (none z)) inr (signs c (not v) N 1 w))

@@ -1,6 +1,6 @@
 -- The power in pairs of doubles, where the fast path leaves its last bit open.
 use mathlib.Core.Bool.{Bool, cond, not, _||_}
-use Prim.Native.Nat.{ℕ, _+_, _-_, _*_, _/_, _%_, _^_}
+use Prim.Native.Nat.{ℕ, _+_, _-_, _/_, _%_, _^_}
 use lib.Bits.{bitAnd}
 use lib.Dec.{eqb, leb, ltb}
 use lib.Ieee as Ieee
@@ -14,7 +14,6 @@ use Rattle.power.specs.Lookup.{f64, powfR2, log2RTd, log2R2Dd, exp2Mid}
 use Rattle.power.specs.Polynomial.{six, ten, onPairs}
 use Rattle.power.specs.Reduction.{minusOne}
 use Rattle.power.specs.Fast.{hiBits, scale}
-use Rattle.power.specs.declared.reduction.Reduced.{Reduced}
 use Rattle.power.specs.declared.fast.Doubt.{Doubt}
 
 abbrev zero : Float

@@ -1,5 +1,5 @@
 -- The power of a positive f32 in f64: 2^(y log2 x) by tables and polynomials, and the rounding test.
-use mathlib.Core.Bool.{Bool, false, cond}
+use mathlib.Core.Bool.{false, cond}
 use Prim.Native.Nat.{ℕ, _+_, _-_, _*_, _/_, _%_, _^_}
 use lib.Bits.{bitAnd}
 use lib.Ieee as Ieee

@@ -1,10 +1,9 @@
 -- The power of any two f32, on a backend.
-use mathlib.Core.Bool.{Bool, cond, _||_}
-use Prim.Native.Nat.{ℕ}
+use mathlib.Core.Bool.{cond, _||_}
 use lib.Ieee as Ieee
 use lib.Ieee.{Float, binary32, nan, neg}
 use Rattle.std.specs.Floats.{infinite, sqrt}
-use Rattle.power.specs.Backend.{Scalar, Arithmetic}
+use Rattle.power.specs.Backend.{Arithmetic}
 use Rattle.power.specs.Reduction.{f32}
 use Rattle.power.specs.Special.{zero, one, signed, infiniteExponent, infiniteBase, zeroBase}
 use Rattle.power.specs.Whole.{wholePower, multiplies}

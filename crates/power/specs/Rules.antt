@@ -1,8 +1,8 @@
 -- The rules that the author of a backend shows. A zero's sign is not compared.
-use mathlib.Core.Bool.{Bool, true, false, cond, Bool·beq}
+use mathlib.Core.Bool.{Bool, false, cond, Bool·beq}
 use mathlib.Core.Path.{_≡_}
 use mathlib.Core.Logic.{_⊎_}
-use Prim.Native.Nat.{ℕ, zero, suc, _+_, _-_, _*_, _^_, _≤_, _<_}
+use Prim.Native.Nat.{ℕ, _+_, _-_, _*_, _^_, _≤_, _<_}
 use lib.Dec.{T, ltb}
 use lib.Ieee.{Float, nan, inf, fin, up, down, unlike, fits, binary32, binary64, ofBits}
 use Rattle.std.specs.Floats.{halfUp}
@@ -81,6 +81,10 @@ AlikePair p q = Alike (p .lo) (q .lo) × Alike (p .hi) (q .hi)
 
 -- ---- the rules
 
+-- a b + c, where a b and a b + c are both values of f64
+abbrev pub FmaExact : (Float → Float → Float → Float) → Type 0
+FmaExact fma = (a b c p r : Float) → Within 400 a → Within 400 b → Within 512 c → Product a b p → MulAdd a b c r → MulAdd a b c (fma a b c)
+
 -- y is a finite f32 other than zero
 abbrev pub Exponent : Float → Type 0
 Exponent nan = ⊥
@@ -92,9 +96,7 @@ pub record ScalarRules (m : Scalar) : Type 0 where
   pub odd-told : (y : Float) → Exponent y → m .odd-integerf y ≡ odd y
   -- the nearest whole number, halves away from zero
   pub round-away : (x : Float) → Within 400 x → Is (m .round x) (sign x) (halfUp (num x) (den x)) 1
-  -- a b + c, where a b and a b + c are both values of f64
-  pub fma-exact : (a b c p r : Float) → Within 400 a → Within 400 b → Within 512 c
-      → Product a b p → MulAdd a b c r → MulAdd a b c (m .fma a b c)
+  pub fma-exact : FmaExact (m .fma)
   pub err-least : 1 ≤ m .err
   pub err-most : m .err ≤ 128
 

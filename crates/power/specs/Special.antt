@@ -1,6 +1,5 @@
 -- The answers at zeros and infinities.
-use mathlib.Core.Bool.{Bool, true, false, cond, Bool·beq, _&&_, _||_}
-use Prim.Native.Nat.{ℕ}
+use mathlib.Core.Bool.{Bool, false, cond, Bool·beq, _&&_, _||_}
 use lib.Dec.{eqb}
 use lib.Ieee as Ieee
 use lib.Ieee.{Float, binary32, neg}
