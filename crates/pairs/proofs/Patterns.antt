@@ -28,6 +28,20 @@ pub steps-high : (f : Format) (b : ℕ) → hid f ≤ b → steps f b ≡ (hid f
 unfolding steps
 steps-high f b h = rw (le-ltb b (hid f) h) refl
 
+-- an f64 whose exponent field is x at most
+pub steps-lt : (b x : ℕ) → b < suc x * 2 ^ 52 → steps binary64 b < 2 ^ (52 + x)
+steps-lt b x h =
+    elim (eq-zero-or-pos (2 ^ 52 - b)) [
+      | inl z ↦
+          let j = b / 2 ^ 52 - 1 in
+          let m : (2 ^ 52 + b % 2 ^ 52) * 2 ^ j < 2 ^ (53 + j) = shl-lt 53 j (omega arith) in
+          let p : 53 + j ≤ 52 + x = omega arith in
+          subst (λ (n : ℕ). n < 2 ^ (52 + x)) (sym (steps-high binary64 b (omega arith))) (lt-of-lt-of-le m (pow-mono p))
+      | inr p ↦
+          let m : 2 ^ 52 ≤ 2 ^ (52 + x) = pow-mono {i = 52} {j = 52 + x} (omega arith) in
+          omega (arith, steps-low binary64 b (omega arith))
+    ]
+
 -- the exponent field and the fraction of k h + m, for an m with h as its leading digit
 split : (h k m : ℕ) → h ≤ m → m < 2 * h → (h + (k * h + m) % h ≡ m) × ((k * h + m) / h - 1 ≡ k)
 split h k m l u =

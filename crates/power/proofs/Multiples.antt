@@ -8,6 +8,7 @@ use native.Mathlib.Omega.{arith}
 use lib.Pow.{pow-add}
 use lib.IntN.{ℤ, pos, negsuc, negℤ, natAbs, _+ℤ_, _*ℤ_, pos-ne-negsuc, negℤ-negℤ}
 use lib.Ieee.{up, down, unlike}
+use Rattle.pairs.proofs.Integers.{abs-neg}
 use Rattle.power.specs.ExactCases.{signedℤ}
 use Rattle.power.proofs.Unique.{no-factor}
 
@@ -16,11 +17,6 @@ negative (pos n) = false
 negative (negsuc n) = true
 
 -- ---- sizes
-
-abs-neg : (z : ℤ) → natAbs (negℤ z) ≡ natAbs z
-abs-neg (pos zero) = refl
-abs-neg (pos (suc n)) = refl
-abs-neg (negsuc n) = refl
 
 abs-signed : (s : Bool) (z : ℤ) → natAbs (signedℤ s z) ≡ natAbs z
 abs-signed true z = abs-neg z

@@ -112,9 +112,6 @@ above-tie b l u =
     subnormal b 1 (omega arith) (omega arith)
     (sym (ap (λ (x : ℕ). closest (2 ^ 52 + b % 2 ^ 52) (2 ^ (926 - x))) f ∙ near (2 ^ 52 + b % 2 ^ 52) 53 1 (omega arith) (omega arith) (omega arith)))
 
-below-tie : (b : ℕ) → b < 873 * 2 ^ 52 → Narrowed b 0
-below-tie b h = tiny b h
-
 -- ---- the rounding test
 
 abbrev power : ℕ → Float
@@ -172,7 +169,7 @@ pub tested-tie : (e : ℕ) (d : Doubt) → 1 ≤ e → e ≤ 128 → tested e (f
 tested-tie e d l h =
     decided e (power 873) (ofBits binary32 1) (ofBits binary32 0) d (self (power 873) (power-no-nan 873 (omega arith)))
     (upper-is e 873 1 h (omega arith) (above-tie (873 * 2 ^ 52 + e) (omega arith) (omega arith)))
-    (lower-is e 873 0 h (omega arith) (omega arith) (below-tie (873 * 2 ^ 52 - e) (omega arith)))
+    (lower-is e 873 0 h (omega arith) (omega arith) (tiny (873 * 2 ^ 52 - e) (omega arith)))
     ∙ ap (λ (z : Bool). cond z (Sure (ofBits binary32 1)) (Open d)) differ
   where
     differ : Ieee.eq (ofBits binary32 1) (ofBits binary32 0) ≡ false

@@ -21,7 +21,8 @@ use Rattle.power.specs.Reduction as Reduction
 use Rattle.power.specs.Reduction.{normalize, exponent, reduce, logPoly, minusOne}
 use Rattle.power.specs.declared.reduction.Reduced.{Reduced}
 use Rattle.power.specs.declared.reduction.Scaled.{Scaled}
-use Rattle.power.proofs.Values.{bounds, pow-le-back}
+use Rattle.pairs.proofs.Powers.{pow-le-inv, pow-lt-inv}
+use Rattle.power.proofs.Values.{bounds}
 use Rattle.power.proofs.TableTest.{every, at}
 use Rattle.power.proofs.Alike.{IsZero, same-within}
 use Rattle.power.proofs.Multiples.{negative}
@@ -63,18 +64,15 @@ all-negative : T (every (λ a b. tells (negsuc a)) 0 (replicate 149 0))
 unfolding tells isWhole normalize Ieee.lt Ieee.mul Ieee.toBits Ieee.ofBits Ieee.sub Ieee.ofInt
 all-negative = tt
 
-power-lt : (a b : ℕ) → 2 ^ a < 2 ^ b → a < b
-power-lt a b h = lt-of-not-le (λ (g : b ≤ a). not-le-of-lt h (pow-mono g))
-
 -- the exponents of f32
 in-range : (k : ℤ) → T (fits binary32 (fin false 1 k)) → natAbs k ≤ 149
-in-range (pos a) t = let h : 1 * 2 ^ a < 2 ^ 128 * 1 = bounds binary32 false 1 (pos a) t .small in omega (arith, power-lt a 128 (omega (arith, h)))
-in-range (negsuc a) t = pow-le-back (suc a) 149 (bounds binary32 false 1 (negsuc a) t .fine)
+in-range (pos a) t = let h : 1 * 2 ^ a < 2 ^ 128 * 1 = bounds binary32 false 1 (pos a) t .small in omega (arith, pow-lt-inv a 128 (omega (arith, h)))
+in-range (negsuc a) t = pow-le-inv (suc a) 149 (bounds binary32 false 1 (negsuc a) t .fine)
 
 told : (k : ℤ) → T (fits binary32 (fin false 1 k)) → T (tells k)
 told (pos a) t =
     let h : 1 * 2 ^ a < 2 ^ 128 * 1 = bounds binary32 false 1 (pos a) t .small in
-    at (λ a b. tells (pos a)) (replicate 128 0) all-positive a (power-lt a 128 (omega (arith, h)))
+    at (λ a b. tells (pos a)) (replicate 128 0) all-positive a (pow-lt-inv a 128 (omega (arith, h)))
 told (negsuc a) t = at (λ a b. tells (negsuc a)) (replicate 149 0) all-negative a (in-range (negsuc a) t)
 
 -- ---- dx

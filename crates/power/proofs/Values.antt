@@ -15,6 +15,7 @@ use lib.Ieee.{Float, Format, nan, inf, fin, binary64, prec, emax, low, up, down,
 use lib.Ieee.Digits.{back}
 use lib.Ieee.Fits.{up-pos, down-pos, and-l, and-r, round-fits}
 use lib.Ieee.Exact.{HasValue, round-exact}
+use Rattle.pairs.proofs.Powers.{pow-le-inv}
 use Rattle.power.specs.Rules.{Is, IsSum, Number, sign, num, den}
 
 -- ---- what a value of a format keeps to
@@ -49,14 +50,11 @@ bounds f s (suc m) e t =
 
 -- ---- a fraction that is a value of the format
 
-pub pow-le-back : (a l : ℕ) → 2 ^ a ≤ 2 ^ l → a ≤ l
-pow-le-back a l h = le-of-suc-le-suc (lt-of-not-le (λ (g : suc l ≤ a). lt-irrefl (2 ^ l) (lt-of-lt-of-le (pow-lt g) h)))
-
 -- 2^e is 2^j of the smallest values
 pub in-units : (l : ℕ) (e : ℤ) → down e ≤ 2 ^ l → (j : ℕ) × (up e * 2 ^ l ≡ 2 ^ j * down e)
 in-units l (pos a) h = (a + l, sym (pow-add 2 a l) ∙ sym (mul-one (2 ^ (a + l))))
 in-units l (negsuc a) h =
-    let le : suc a ≤ l = pow-le-back (suc a) l h in
+    let le : suc a ≤ l = pow-le-inv (suc a) l h in
     (l - suc a, one-mul (2 ^ l) ∙ ap (λ (x : ℕ). 2 ^ x) (sym (back l (suc a) le)) ∙ pow-add 2 (l - suc a) (suc a))
 
 -- a bound of m u / dn is one of m J / L, which is equal

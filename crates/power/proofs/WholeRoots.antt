@@ -11,7 +11,8 @@ use lib.Ieee.{fin, binary32, up, down, round, fits}
 use lib.Ieee.Scale.{round-same}
 use Rattle.std.specs.Floats.{rootTwice, sqrt}
 use Rattle.pairs.proofs.root.Laws.{twice-square}
-use Rattle.power.proofs.Values.{bounds, pow-le-back}
+use Rattle.pairs.proofs.Powers.{pow-le-inv}
+use Rattle.power.proofs.Values.{bounds}
 
 -- where n is the square of 2^h, and 2^(h + 1) / 2^2272 is a / b
 halved : (n h a b : ℕ) → 0 < b → n ≡ 2 ^ h * 2 ^ h → 2 * 2 ^ h * b ≡ a * 2 ^ 2272 → round binary32 false (rootTwice n) (2 ^ 2272) ≡ round binary32 false a b
@@ -50,7 +51,7 @@ twice (pos i) t = halved (1 * 2 ^ (i + i) * 2 ^ 4542 / 1) (i + 2271) (1 * 2 ^ i)
 twice (negsuc b) t =
     let i = suc b in
     let e : suc (suc (b + b)) ≡ i + i = omega arith in
-    let h : i ≤ 2271 = few i (subst (λ (x : ℕ). x ≤ 149) e (pow-le-back (suc (suc (b + b))) 149 (bounds binary32 false 1 (negsuc (suc (b + b))) t .fine))) in
+    let h : i ≤ 2271 = few i (subst (λ (x : ℕ). x ≤ 149) e (pow-le-inv (suc (suc (b + b))) 149 (bounds binary32 false 1 (negsuc (suc (b + b))) t .fine))) in
     ap (λ (x : ℕ). round binary32 false (rootTwice (1 * 1 * 2 ^ 4542 / 2 ^ x)) (2 ^ 2272)) e
     ∙ halved (1 * 1 * 2 ^ 4542 / 2 ^ (i + i)) (2271 - i) (1 * 1) (2 ^ i) (pow-pos i) (square-down i 2271 4542 refl h) (value-down i 2271 2272 refl h)
 

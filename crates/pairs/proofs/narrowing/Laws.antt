@@ -19,7 +19,7 @@ use lib.Ieee.Nearest.{closest, closest-same, div-same, nearest-ge}
 use lib.Ieee.Scale.{round-same}
 use Rattle.std.specs.Floats.{nearestIn}
 use Rattle.pairs.specs.Narrowing.{Narrowed}
-use Rattle.pairs.proofs.Patterns.{steps, steps-low, steps-high, read-signed, packed, infinite, overflows}
+use Rattle.pairs.proofs.Patterns.{steps, steps-low, steps-high, steps-lt, read-signed, packed, infinite, overflows}
 
 -- ---- what `compare` says
 
@@ -176,20 +176,6 @@ normal b r lo hi e =
           ∙ packed binary32 s q k (Q .1) (λ _. Q .0) (omega arith)
           ∙ sym (with-field s b m (k + 896) (omega arith) (omega arith) refl (omega arith) ∙ from-normal s m k (omega arith) (omega arith));
     }
-
--- a field of x at most
-steps-lt : (b x : ℕ) → b < suc x * 2 ^ 52 → steps binary64 b < 2 ^ (52 + x)
-steps-lt b x h =
-    elim (eq-zero-or-pos (2 ^ 52 - b)) [
-      | inl z ↦
-          let j = b / 2 ^ 52 - 1 in
-          let m : (2 ^ 52 + b % 2 ^ 52) * 2 ^ j < 2 ^ (53 + j) = shl-lt 53 j (omega arith) in
-          let p : 53 + j ≤ 52 + x = omega arith in
-          subst (λ (n : ℕ). n < 2 ^ (52 + x)) (sym (steps-high binary64 b (omega arith))) (lt-of-lt-of-le m (pow-mono p))
-      | inr p ↦
-          let m : 2 ^ 52 ≤ 2 ^ (52 + x) = pow-mono {i = 52} {j = 52 + x} (omega arith) in
-          omega (arith, steps-low binary64 b (omega arith))
-    ]
 
 -- below half of 2^-149
 pub tiny : (b : ℕ) → b < 873 * 2 ^ 52 → Narrowed b 0

@@ -16,7 +16,7 @@ use lib.Ieee.Bits.{ofBits-fits}
 use lib.Ieee.Exact.{HasValue, round-exact}
 use lib.Ieee.Fits.{down-pos, round-fits}
 use Rattle.std.specs.Floats.{halfUp, wholeBy, roundAway}
-use Rattle.pairs.proofs.Patterns.{steps, steps-low, steps-high, steps-packed, read-signed, value, no-number}
+use Rattle.pairs.proofs.Patterns.{steps, steps-lt, steps-low, steps-high, steps-packed, read-signed, value, no-number}
 
 -- ---- the nearest whole number
 
@@ -67,15 +67,6 @@ reduced (fin t m e) s n p P v =
     (v .0, eq-of-mul-eq-mul-right p P (m * up e * 1) (n * down e) (ap (λ (a : ℕ). a * p) (mul-one (m * up e)) ∙ v .1 ∙ mul-right-comm n p (down e)))
 
 -- ---- sizes of patterns
-
-steps-upper : (b j : ℕ) → b < suc j * 2 ^ 52 → steps binary64 b < 2 ^ (52 + j)
-steps-upper b j h = go (eq-zero-or-pos (2 ^ 52 - b))
-  where
-    go : (2 ^ 52 - b ≡ 0) ⊎ (0 < 2 ^ 52 - b) → steps binary64 b < 2 ^ (52 + j)
-    go (inl z) =
-        let l : (2 ^ 52 + b % 2 ^ 52) * 2 ^ (b / 2 ^ 52 - 1) < 2 ^ (53 + (b / 2 ^ 52 - 1)) = shl-lt {a = 2 ^ 52 + b % 2 ^ 52} 53 (b / 2 ^ 52 - 1) (omega arith) in
-        subst (λ (a : ℕ). a < 2 ^ (52 + j)) (sym (steps-high binary64 b (omega arith))) (lt-of-lt-of-le l (pow-mono {i = 53 + (b / 2 ^ 52 - 1)} {j = 52 + j} (omega arith)))
-    go (inr p) = subst (λ (a : ℕ). a < 2 ^ (52 + j)) (sym (steps-low binary64 b (omega arith))) (lt-of-lt-of-le {m = 2 ^ 52} (omega arith) (pow-mono {i = 52} {j = 52 + j} (omega arith)))
 
 steps-lower : (b : ℕ) → b / 2 ^ 52 ≡ 1022 → 2 ^ 1073 ≤ steps binary64 b
 steps-lower b h =
@@ -227,14 +218,14 @@ module _ (x : Float) (b : ℕ) (F : T (fits binary64 x)) (e : b ≡ toBits binar
   pub to-zero : b < 2 ^ 64 → b / 2 ^ 52 % 2 ^ 11 < 1022 → ofBits binary64 (bitOr (bitAnd b (2 ^ 63)) 0) ≡ roundAway binary64 x
   to-zero l h =
       ap (ofBits binary64) (signed b 0 l (omega arith))
-      ∙ rounded 0 0 (omega arith) (omega arith) steps-zero (half-none (steps binary64 (b % 2 ^ 63)) (2 ^ 1074) (2 ^ 1073) refl (steps-upper (b % 2 ^ 63) 1021 (omega arith))) (omega arith)
+      ∙ rounded 0 0 (omega arith) (omega arith) steps-zero (half-none (steps binary64 (b % 2 ^ 63)) (2 ^ 1074) (2 ^ 1073) refl (steps-lt (b % 2 ^ 63) 1021 (omega arith))) (omega arith)
 
   -- from a half to below one
   pub to-one : b < 2 ^ 64 → b / 2 ^ 52 % 2 ^ 11 ≡ 1022 → ofBits binary64 (bitOr (bitAnd b (2 ^ 63)) 0x3ff0_0000_0000_0000) ≡ roundAway binary64 x
   to-one l h =
       ap (ofBits binary64) (signed b 0x3ff0_0000_0000_0000 l (omega arith))
       ∙ rounded 0x3ff0_0000_0000_0000 1 (omega arith) (omega arith) steps-one
-      (half-one (steps binary64 (b % 2 ^ 63)) (2 ^ 1074) (2 ^ 1073) refl (steps-lower (b % 2 ^ 63) (omega arith)) (steps-upper (b % 2 ^ 63) 1022 (omega arith)))
+      (half-one (steps binary64 (b % 2 ^ 63)) (2 ^ 1074) (2 ^ 1073) refl (steps-lower (b % 2 ^ 63) (omega arith)) (steps-lt (b % 2 ^ 63) 1022 (omega arith)))
       (omega arith)
 
   -- from one to below 2^52: q is the weight of the unit in the pattern

@@ -27,25 +27,6 @@ pub odd-odd : (s : Bool) (m : ℕ) (e : ℤ) → oddIntegerf (fin s (suc m) e) �
 unfolding oddIntegerf
 odd-odd s m e = refl
 
-first : (a b : Bool) → (a && b) ≡ true → a ≡ true
-first true b h = refl
-first false b h = h
-
-pub odd-is-integer : (y : Float) → oddIntegerf y ≡ true → integerf y ≡ true
-unfolding integerf oddIntegerf
-odd-is-integer nan h = refl
-odd-is-integer (inf s) h = refl
-odd-is-integer (fin s zero e) h = h
-odd-is-integer (fin s (suc m) e) h = first _ _ h
-
--- the sign does not matter
-pub tests-neg : (y : Float) → (integerf (neg y) ≡ integerf y) × (oddIntegerf (neg y) ≡ oddIntegerf y)
-unfolding integerf oddIntegerf neg
-tests-neg nan = (refl, refl)
-tests-neg (inf s) = (refl, refl)
-tests-neg (fin s zero e) = (refl, refl)
-tests-neg (fin s (suc m) e) = (refl, refl)
-
 -- ---- m 2^(a - l) for an odd m: whole if a is at least l, and odd if it is l
 
 odd-rem : (m k : ℕ) → m % 2 ≡ 1 → m % 2 ^ suc k ≡ 0 → ⊥
