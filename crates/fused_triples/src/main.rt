@@ -131,7 +131,7 @@ fn spaced(seed: &mut Seed) -> Triple {
     Triple { c, ..t }
 }
 
-// A third term far above or far below the product.
+// A third term at either end of its range, and a product that is mostly far from it.
 fn apart(seed: &mut Seed) -> Triple {
     let a = seed.number(FACTOR_LOW, FACTOR_LOW + 100);
     let b = seed.number(FACTOR_LOW, FACTOR_HIGH);

@@ -38,7 +38,7 @@ impl DoubleDouble {
         }
     }
 
-    // Two halves of 26 bits that add up to a.
+    // Two halves of at most 26 bits that add up to a, for an a from 2^-400 to 2^400.
     pub fn split(a: f64) -> DoubleDouble
         ensures value { λ r. ⌜ r ≡ Pairs.split a ⌝ }
         ensures halves { λ r. ⌜ (Moderate a → Halved a (r .hi) (r .lo)) ⌝ }
@@ -49,7 +49,7 @@ impl DoubleDouble {
         DoubleDouble::new(a - r_hi, r_hi)
     }
 
-    // a + b and what its rounding lost, where |a| is not below |b|.
+    // a + b and a remainder, meant for |a| not below |b|.
     pub fn from_exact_add(a: f64, b: f64) -> DoubleDouble
         ensures { λ r. ⌜ r ≡ Pairs.exactAdd a b ⌝ }
     {
@@ -58,7 +58,7 @@ impl DoubleDouble {
         DoubleDouble::new(b - t, r_hi)
     }
 
-    // a + b and what its rounding lost, whichever of them is larger.
+    // a + b and what its rounding lost, whichever of them is larger, up to 2^1016.
     pub fn from_full_exact_add(a: f64, b: f64) -> DoubleDouble
         ensures value { λ r. ⌜ r ≡ Pairs.fullExactAdd a b ⌝ }
         ensures exact { λ r. ⌜ (Bounded 2090 a → Bounded 2090 b → AddsTo a b (r .hi) (r .lo)) ⌝ }
@@ -69,7 +69,7 @@ impl DoubleDouble {
         DoubleDouble::new((a - aa) + (b - bb), r_hi)
     }
 
-    // a b and what its rounding lost.
+    // a b and what its rounding lost, for such factors.
     pub fn from_exact_mult(a: f64, b: f64) -> DoubleDouble
         ensures value { λ r. ⌜ r ≡ Pairs.exactMult a b ⌝ }
         ensures exact { λ r. ⌜ (Moderate a → Moderate b → ExactProduct a b (r .hi) (r .lo)) ⌝ }
@@ -140,7 +140,7 @@ impl DoubleDouble {
         DoubleDouble::new(l, h)
     }
 
-    // a b + c, where |c.hi| is above |a.hi b.hi|.
+    // a b + c, meant for |c.hi| above |a.hi b.hi|.
     pub fn quick_mul_add(a: DoubleDouble, b: DoubleDouble, c: DoubleDouble) -> DoubleDouble
         ensures { λ r. ⌜ r ≡ Pairs.plusProduct (Pairs.quickMult a b) c ⌝ }
     {

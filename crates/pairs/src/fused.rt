@@ -25,8 +25,8 @@ pub fn add_odd(a: f64, b: f64) -> f64
     std::num::f64_from_bits_with_nan(next)
 }
 
-// a b + c with one rounding, for factors that are 0 or from 2^-400 to 2^400 in size, and a c of at
-// most 2^926.
+// a b + c, exact where 53 bits hold it, for factors that are 0 or from 2^-400 to 2^400 in size and a c
+// of at most 2^926. The steps are made to round once elsewhere too.
 pub fn fused_sum(a: f64, b: f64, c: f64) -> f64
     ensures value { λ r. ⌜ r ≡ fusedSum a b c ⌝ }
     ensures exact { λ r. ⌜ (Moderate a → Moderate b → Bounded 2000 c → ExactFused a b c r) ⌝ }

@@ -1,5 +1,4 @@
-// The fused backend: a product and a sum with one rounding, as a processor with fma has them, by
-// additions and multiplications alone.
+// The fused backend: it stands for a processor with fma, by additions and multiplications alone.
 ghost use Rattle.pairs.specs.Fused.{fusedSum};
 ghost use Rattle.power.specs.Backend.{fused as fusedArithmetic};
 use crate::backend::PowfBackend;
