@@ -49,7 +49,7 @@ def code(tables):
         rows = tables[name]
         width = len(rows[0])
         kind = 'u64' if width == 1 else '(' + ', '.join(['u64'] * width) + ')'
-        out += ['', '// ' + about, 'pub static %s: [%s; %d] = [' % (name, kind, len(rows))]
+        out += ['', '// ' + about, 'pub(crate) static %s: [%s; %d] = [' % (name, kind, len(rows))]
         out += ['    %s,' % item(e) for e in rows] + ['];']
     return '\n'.join(out) + '\n'
 

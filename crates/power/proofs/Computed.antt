@@ -1,5 +1,5 @@
 -- The values at the limits, computed by the definitions. Assumes nothing.
-use mathlib.Core.Path.{_≡_, refl}
+use mathlib.Core.Path.{refl}
 use lib.Ieee.{ofBits, toBits, mul, add, sub, neg, ofInt, toUnsigned, eq, ne, lt, le, size}
 use Rattle.std.specs.Floats.{wholeBy, nearestIn, infinite, withSign, sqrt}
 use Rattle.pairs.specs.Bits.{exponentField, significantBits}

@@ -3,10 +3,9 @@ use mathlib.Core.Path.{_≡_, refl, sym, ap, subst}
 use mathlib.Core.Bool.{Bool, true, false, _&&_, Bool·beq}
 use mathlib.Core.Logic.{inr}
 use Prim.Native.Nat.{ℕ, suc, _*_, _/_, _^_, _≤_, _<_}
-use native.Mathlib.Nat.{lt-of-not-le, not-le-of-lt}
 use native.Mathlib.Omega.{arith}
 use lib.Dec.{T, eqb, eqb→eq, lit≤}
-use lib.Pow.{pow-mono, pow-pos}
+use lib.Pow.{pow-pos}
 use lib.Bits.{bitAnd, bitOr}
 use lib.IntN.{ℤ, pos, negsuc, natAbs}
 use lib.ListN.{replicate}

@@ -195,7 +195,7 @@ fn powf_dd<B: PowfBackend>(d: Doubt, backend: &B) -> f64
     finished(d, ordered_add(mid, low), backend)
 }
 
-pub fn fallback<B: PowfBackend>(d: Doubt, backend: &B) -> f32
+pub(crate) fn fallback<B: PowfBackend>(d: Doubt, backend: &B) -> f32
     requires { ⌜ Placed (d .reduced) ⌝ }
     ensures { λ r. ⌜ r ≡ Fallback.fallback (B·PowfBackend .meaning (now (backend .entry))) d ⌝ }
 {

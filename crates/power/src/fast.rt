@@ -8,12 +8,12 @@ use crate::lookup::exp2_mid;
 use crate::lookup::f64_of;
 use crate::lookup::log2_r;
 use crate::lookup::log2_r_td;
-use crate::lookup::not_a_number;
 use crate::polynomial::F64Number;
 use crate::polynomial::polyeval6;
 use crate::reduction::Reduced;
 use crate::reduction::normalize;
 use crate::reduction::reduce;
+use crate::special::not_a_number;
 use pairs::narrowing::narrow;
 
 // What the fallback goes on from: 64 y, the high part of 64 y log2 x beyond the whole number h
@@ -87,14 +87,14 @@ fn count(h: f64) -> u64
 }
 
 // The bits that 2^floor(h/64) adds to a pattern's exponent.
-pub fn hi_bits(k: u64) -> u64
+pub(crate) fn hi_bits(k: u64) -> u64
     ensures { λ r. ⌜ r ≡ Fast.hiBits k ⌝ }
 {
     (k >> 6).wrapping_sub(1024) << 52
 }
 
 // 2^(h/64).
-pub fn scale(k: u64) -> f64
+pub(crate) fn scale(k: u64) -> f64
     ensures { λ r. ⌜ r ≡ Fast.scale k ⌝ }
 {
     let mid = exp2_mid((k & 0x3f) as usize);
@@ -145,7 +145,7 @@ fn tested(err: u64, r: f64, doubt: Doubt) -> Outcome
     Outcome::Open(doubt)
 }
 
-pub fn fast<B: PowfBackend>(x: f32, y: f32, backend: &B) -> Outcome
+pub(crate) fn fast<B: PowfBackend>(x: f32, y: f32, backend: &B) -> Outcome
     ensures value { λ r. ⌜ r ≡ Fast.fast (B·PowfBackend .meaning (now (backend .entry)) .scalar) x y ⌝ }
     ensures workable { λ r. ⌜ Fast.Workable r ⌝ }
 {

@@ -1,39 +1,32 @@
 // Entries of the tables, as values.
 ghost use mathlib.Core.Path.{_≡_};
 ghost use Prim.Native.Nat.{_<_};
-ghost use lib.Ieee.{nan};
 ghost use Rattle.power.specs.Lookup as Lookup;
 use crate::tables;
 use pairs::double_double::DoubleDouble;
 
 // The f64 of a bit pattern.
-pub fn f64_of(bits: u64) -> f64
+pub(crate) fn f64_of(bits: u64) -> f64
     ensures { λ r. ⌜ r ≡ Lookup.f64 bits ⌝ }
 {
     std::num::f64_from_bits_with_nan(bits)
 }
 
-pub fn not_a_number() -> f32
-    ensures { λ r. ⌜ r ≡ nan ⌝ }
-{
-    f32::NAN
-}
-
-pub fn range_reduction(i: usize) -> f64
+pub(crate) fn range_reduction(i: usize) -> f64
     requires { ⌜ i < 128 ⌝ }
     ensures { λ r. ⌜ r ≡ Lookup.rangeReduction i ⌝ }
 {
     f64_of(tables::LOG_RANGE_REDUCTION[i])
 }
 
-pub fn log2_r(i: usize) -> f64
+pub(crate) fn log2_r(i: usize) -> f64
     requires { ⌜ i < 128 ⌝ }
     ensures { λ r. ⌜ r ≡ Lookup.log2R i ⌝ }
 {
     f64_of(tables::LOG2_R[i])
 }
 
-pub fn log2_r_td(i: usize) -> (f64, f64, f64)
+pub(crate) fn log2_r_td(i: usize) -> (f64, f64, f64)
     requires { ⌜ i < 128 ⌝ }
     ensures { λ r. ⌜ r ≡ Lookup.log2RTd i ⌝ }
 {
@@ -41,14 +34,14 @@ pub fn log2_r_td(i: usize) -> (f64, f64, f64)
     (f64_of(t.0), f64_of(t.1), f64_of(t.2))
 }
 
-pub fn powf_r2(i: usize) -> f64
+pub(crate) fn powf_r2(i: usize) -> f64
     requires { ⌜ i < 193 ⌝ }
     ensures { λ r. ⌜ r ≡ Lookup.powfR2 i ⌝ }
 {
     f64_of(tables::POWF_R2[i])
 }
 
-pub fn log2_r2_dd(i: usize) -> DoubleDouble
+pub(crate) fn log2_r2_dd(i: usize) -> DoubleDouble
     requires { ⌜ i < 193 ⌝ }
     ensures { λ r. ⌜ r ≡ Lookup.log2R2Dd i ⌝ }
 {
@@ -56,7 +49,7 @@ pub fn log2_r2_dd(i: usize) -> DoubleDouble
 }
 
 // The bit patterns of 2^(i/64), the low part's first.
-pub fn exp2_mid(i: usize) -> (u64, u64)
+pub(crate) fn exp2_mid(i: usize) -> (u64, u64)
     requires { ⌜ i < 64 ⌝ }
     ensures { λ r. ⌜ r ≡ Lookup.exp2Mid i ⌝ }
 {

@@ -43,7 +43,16 @@ pub impl<B: PowfBackend> Number<B> for DoubleDouble as PairNumber {
 }
 
 // a0 + a1 x + .. + a5 x^5.
-pub fn polyeval6<B, N: Number<B>>(x: N, a0: N, a1: N, a2: N, a3: N, a4: N, a5: N, backend: &B) -> N
+pub(crate) fn polyeval6<B, N: Number<B>>(
+    x: N,
+    a0: N,
+    a1: N,
+    a2: N,
+    a3: N,
+    a4: N,
+    a5: N,
+    backend: &B,
+) -> N
     ensures { λ r. ⌜ r ≡ six (N·Number .ops (now (backend .entry))) x a0 a1 a2 a3 a4 a5 ⌝ }
 {
     let q = x.times(x, backend);
@@ -54,7 +63,7 @@ pub fn polyeval6<B, N: Number<B>>(x: N, a0: N, a1: N, a2: N, a3: N, a4: N, a5: N
 }
 
 // a0 + a1 x + .. + a9 x^9.
-pub fn polyeval10<B, N: Number<B>>(
+pub(crate) fn polyeval10<B, N: Number<B>>(
     x: N,
     a0: N,
     a1: N,

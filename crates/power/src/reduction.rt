@@ -26,7 +26,7 @@ pub struct Reduced {
 }
 
 // A subnormal x is scaled by 2^64.
-pub fn normalize(x: f32) -> Scaled
+pub(crate) fn normalize(x: f32) -> Scaled
     ensures { λ r. ⌜ r ≡ Reduction.normalize x ⌝ }
 {
     if x < f32::MIN_POSITIVE {
@@ -83,7 +83,7 @@ fn log_poly<B: PowfBackend>(dx: f64, backend: &B) -> f64
     )
 }
 
-pub fn reduce<B: PowfBackend>(b: Scaled, backend: &B) -> Reduced
+pub(crate) fn reduce<B: PowfBackend>(b: Scaled, backend: &B) -> Reduced
     ensures value { λ r. ⌜ r ≡ Reduction.reduce (B·PowfBackend .meaning (now (backend .entry)) .scalar) b ⌝ }
     ensures placed { λ r. ⌜ Reduction.Placed r ⌝ }
 {

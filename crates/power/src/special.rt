@@ -1,16 +1,23 @@
-// The answers at zeros and infinities.
+// The answers at zeros, infinities and NaN.
 ghost use mathlib.Core.Path.{_≡_};
+ghost use lib.Ieee.{nan};
 ghost use Rattle.power.specs.Special as Special;
 use crate::backend::PowfBackend;
 
-pub fn signed(negative: bool, x: f32) -> f32
+pub(crate) fn not_a_number() -> f32
+    ensures { λ r. ⌜ r ≡ nan ⌝ }
+{
+    f32::NAN
+}
+
+pub(crate) fn signed(negative: bool, x: f32) -> f32
     ensures { λ r. ⌜ r ≡ Special.signed negative x ⌝ }
 {
     if negative { -x } else { x }
 }
 
 // y is an infinity.
-pub fn infinite_exponent(x: f32, y: f32) -> f32
+pub(crate) fn infinite_exponent(x: f32, y: f32) -> f32
     ensures { λ r. ⌜ r ≡ Special.infiniteExponent x y ⌝ }
 {
     let size = x.abs();
@@ -24,7 +31,7 @@ pub fn infinite_exponent(x: f32, y: f32) -> f32
 }
 
 // x is an infinity and y is finite.
-pub fn infinite_base<B: PowfBackend>(x: f32, y: f32, backend: &B) -> f32
+pub(crate) fn infinite_base<B: PowfBackend>(x: f32, y: f32, backend: &B) -> f32
     ensures { λ r. ⌜ r ≡ Special.infiniteBase (B·PowfBackend .meaning (now (backend .entry)) .scalar) x y ⌝ }
 {
     let negative = x < 0.0 && backend.odd_integerf(y);
@@ -39,7 +46,7 @@ fn keeps_sign<B: PowfBackend>(y: f32, backend: &B) -> bool
 }
 
 // x is a zero and y is finite.
-pub fn zero_base<B: PowfBackend>(x: f32, y: f32, backend: &B) -> f32
+pub(crate) fn zero_base<B: PowfBackend>(x: f32, y: f32, backend: &B) -> f32
     ensures { λ r. ⌜ r ≡ Special.zeroBase (B·PowfBackend .meaning (now (backend .entry)) .scalar) x y ⌝ }
 {
     if y < 0.0 {

@@ -1,7 +1,7 @@
 // The tables, as bit patterns of f64, from the published crate.
 
 // r, at most eight significant bits, for a significand whose top seven fraction bits are the index.
-pub static LOG_RANGE_REDUCTION: [u64; 128] = [
+pub(crate) static LOG_RANGE_REDUCTION: [u64; 128] = [
     0x3ff0_0000_0000_0000,
     0x3fef_c000_0000_0000,
     0x3fef_8000_0000_0000,
@@ -133,7 +133,7 @@ pub static LOG_RANGE_REDUCTION: [u64; 128] = [
 ];
 
 // -log2 r.
-pub static LOG2_R: [u64; 128] = [
+pub(crate) static LOG2_R: [u64; 128] = [
     0x0000_0000_0000_0000,
     0x3f87_2c7b_a20f_7327,
     0x3f97_43ee_861f_3556,
@@ -265,7 +265,7 @@ pub static LOG2_R: [u64; 128] = [
 ];
 
 // -log2 r as three parts, the lowest first; the last has few bits.
-pub static LOG2_R_TD: [(u64, u64, u64); 128] = [
+pub(crate) static LOG2_R_TD: [(u64, u64, u64); 128] = [
     (
         0x0000_0000_0000_0000,
         0x0000_0000_0000_0000,
@@ -909,7 +909,7 @@ pub static LOG2_R_TD: [(u64, u64, u64); 128] = [
 ];
 
 // The second reduction: 1/(1 + (index - 64)/2^14), nearly.
-pub static POWF_R2: [u64; 193] = [
+pub(crate) static POWF_R2: [u64; 193] = [
     0x3ff0_1010_0000_0000,
     0x3ff0_0fd0_0000_0000,
     0x3ff0_0f90_0000_0000,
@@ -1106,7 +1106,7 @@ pub static POWF_R2: [u64; 193] = [
 ];
 
 // -log2 of the second reduction, a pair, the low part first.
-pub static LOG2_R2_DD: [(u64, u64); 193] = [
+pub(crate) static LOG2_R2_DD: [(u64, u64); 193] = [
     (0x3c1f_f251_8095_3e64, 0xbf77_20c2_ab23_12a9),
     (0xbc11_5ffd_7956_0d8f, 0xbf76_c4c9_2b14_78ff),
     (0x3c1b_8d6d_6f2e_3579, 0xbf76_68ce_3c87_3549),
@@ -1303,7 +1303,7 @@ pub static LOG2_R2_DD: [(u64, u64); 193] = [
 ];
 
 // 2^(index/64) as a pair, the low part first.
-pub static EXP2_MID1: [(u64, u64); 64] = [
+pub(crate) static EXP2_MID1: [(u64, u64); 64] = [
     (0x0000_0000_0000_0000, 0x3ff0_0000_0000_0000),
     (0xbc71_9083_535b_085d, 0x3ff0_2c9a_3e77_8061),
     (0x3c8d_73e2_a475_b465, 0x3ff0_59b0_d315_8574),

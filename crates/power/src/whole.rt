@@ -31,14 +31,14 @@ fn short(x: f32, n: u32) -> bool
 }
 
 // Whether x^y is worked out by products.
-pub fn multiplies<B: PowfBackend>(x: f32, y: f32, backend: &B) -> bool
+pub(crate) fn multiplies<B: PowfBackend>(x: f32, y: f32, backend: &B) -> bool
     ensures { λ r. ⌜ r ≡ Whole.multiplies (B·PowfBackend .meaning (now (backend .entry)) .scalar) x y ⌝ }
 {
     small_whole(y, backend) && short(x, std::num::saturating_f32_to_u32(y))
 }
 
 // x^y by products.
-pub fn whole_power(x: f32, y: f32) -> f32
+pub(crate) fn whole_power(x: f32, y: f32) -> f32
     ensures { λ r. ⌜ r ≡ Whole.wholePower x y ⌝ }
 {
     product(x, std::num::saturating_f32_to_u32(y))

@@ -58,8 +58,8 @@ mod tests {
         both(0x0000_0000, 0xbf80_0000, 0x7f80_0000)
     }
 
-    // (2^-100)^1.5 is a tie at 2^-150 and gives 0; (2^-149)^-0.5 is no exact case; (2^-148)^-0.5 is
-    // 2^74; 4^0.5; (2^64)^-2; 3^24.
+    // (2^-100)^1.5, a tie at 2^-150, gives 0; (2^-148)^-0.5, 4^0.5 and (2^64)^-2 are powers of two;
+    // 3^24 is a product, rounded once.
     #[test]
     fn exact_cases() -> Result<(), Fail> {
         both(0x0d80_0000, 0x3fc0_0000, 0)?;

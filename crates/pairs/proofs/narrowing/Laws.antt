@@ -19,7 +19,7 @@ use lib.Ieee.Nearest.{closest, closest-same, div-same, nearest-ge}
 use lib.Ieee.Scale.{round-same}
 use Rattle.std.specs.Floats.{nearestIn}
 use Rattle.pairs.specs.Narrowing.{Narrowed}
-use Rattle.pairs.proofs.Patterns.{steps, steps-low, steps-high, steps-lt, read-signed, packed, infinite, overflows}
+use Rattle.pairs.proofs.Patterns.{steps, steps-high, steps-lt, read-signed, packed, infinite, overflows}
 
 -- ---- what `compare` says
 

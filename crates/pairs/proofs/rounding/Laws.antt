@@ -2,7 +2,7 @@
 use mathlib.Core.Path.{_≡_, refl, sym, ap, _∙_, subst}
 use mathlib.Core.Logic.{_⊎_, inl, inr}
 use mathlib.Core.Bool.{Bool, true, false, cond}
-use Prim.Native.Nat.{ℕ, zero, suc, _+_, _-_, _*_, _/_, _%_, _^_, _≤_, _<_}
+use Prim.Native.Nat.{ℕ, suc, _+_, _-_, _*_, _/_, _%_, _^_, _≤_, _<_}
 use native.Mathlib.Nat.{eq-zero-or-pos, lt-of-lt-of-le, mul-assoc, mul-comm, mul-le-mul-right, mul-div-mul-left, mul-div-mul-right, eq-of-mul-eq-mul-right, div-eq-of-lt-le, div-lt-iff-lt-mul, le-div-iff-mul-le, add-mul-div-right, pow-succ', add-mul, mul-right-comm, mul-one, mul-le-mul-left}
 use native.Mathlib.Omega.{arith}
 use borrow.Author.Tests.{leb-true, leb-false}
@@ -16,7 +16,7 @@ use lib.Ieee.Bits.{ofBits-fits}
 use lib.Ieee.Exact.{HasValue, round-exact}
 use lib.Ieee.Fits.{down-pos, round-fits}
 use Rattle.std.specs.Floats.{halfUp, wholeBy, roundAway}
-use Rattle.pairs.proofs.Patterns.{steps, steps-lt, steps-low, steps-high, steps-packed, read-signed, value, no-number}
+use Rattle.pairs.proofs.Patterns.{steps, steps-lt, steps-high, steps-packed, read-signed, value, no-number}
 
 -- ---- the nearest whole number
 

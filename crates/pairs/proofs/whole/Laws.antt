@@ -11,7 +11,7 @@ use lib.Pow.{split, field, mod-mod-pow, shl-shr}
 use lib.Bits.{bitAnd, bitOr, and-high, or-block, or-step, or-zero-r, block-half, block-odd, shifted-even}
 use lib.Count.{trailingZeros, under, trailing-le}
 use lib.Ieee as Ieee
-use lib.Ieee.{Float, nan, inf, fin, binary32, minus, neg, fits, ofFields, ofBits, toBits}
+use lib.Ieee.{Float, nan, inf, fin, binary32, minus, fits, ofFields, ofBits, toBits}
 use lib.Ieee.Bits.{ofBits-toBits}
 use borrow.Author.Tests.{leb-true, leb-false, le-leb, lt-leb, eqb-true, eqb-false, eq-eqb, ne-eqb}
 use Rattle.pairs.specs.Whole.{whole, odd, integerf, oddIntegerf}
