@@ -1,5 +1,7 @@
 // Runs a list of the reference's answers on a backend, and counts the differences.
 // A line is three bit patterns in hexadecimal: x, y and the expected power.
+#![tactic(auto)]
+
 use power::backend::PowfBackend;
 use power::powf::f_powf;
 use std::io;

@@ -1,4 +1,6 @@
 // The reference's answers beside the power on the fused backend.
+#![tactic(auto)]
+
 use power::fused::Fused;
 use std::io;
 

@@ -1,5 +1,7 @@
 // Compares the fused sum with the kit's `mul_add` on triples that it makes from a seed: random ones,
 // and hard ones of seven kinds. It prints every difference and the two counts.
+#![tactic(auto)]
+
 use pairs::fused::fused_sum;
 use std::io;
 

@@ -1,4 +1,6 @@
 // Whole numbers, narrowing and pairs of doubles: the arithmetic below the power.
+#![tactic(auto)]
+
 pub mod bits;
 pub mod double_double;
 pub mod fused;

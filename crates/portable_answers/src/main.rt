@@ -1,4 +1,6 @@
 // The reference's answers beside the power on the portable backend.
+#![tactic(auto)]
+
 use power::portable::Portable;
 use std::io;
 

@@ -1,4 +1,6 @@
 // The power x^y of two f32, over any backend that shows the rules.
+#![tactic(auto)]
+
 pub mod backend;
 mod fallback;
 mod fast;

@@ -1,5 +1,7 @@
 // What the power answers on examples, on both backends: the values at the limits, special cases,
 // exact cases, opposite bases, and the mistakes that it must not make.
+#![tactic(auto)]
+
 #[cfg(test)]
 mod tests {
     use power::backend::PowfBackend;

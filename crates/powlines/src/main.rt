@@ -1,4 +1,6 @@
 // The powers of pairs of bit patterns, a pair to a line, from standard input to standard output.
+#![tactic(auto)]
+
 use powtext::{MAX_INPUT, answers};
 use std::io;
 use std::io::{Read, Write};

@@ -1,4 +1,6 @@
 // Powers as text: an input of lines, each with two bit patterns, and a line of output for each.
+#![tactic(auto)]
+
 ghost use Rattle.std.specs.Prelude.{◌≡◌, ◌≤◌, ◌++◌, length, IfOk, OnOk};
 ghost use Rattle.powtext.specs.Format as Format;
 ghost use Rattle.text.specs.Pieces as Pieces;

@@ -1,4 +1,6 @@
 // The control strip: patches under curves, over any backend of the power.
+#![tactic(auto)]
+
 pub mod call;
 mod cells;
 pub mod curve;

@@ -1,5 +1,7 @@
 // What a strip answers on examples: each refusal, the order of the places, cells from elsewhere, the
 // largest strip.
+#![tactic(auto)]
+
 #[cfg(test)]
 mod tests {
     use power::fused::Fused;

@@ -1,4 +1,6 @@
 // Calls of a strip, one a line, from standard input, and their answers to standard output.
+#![tactic(auto)]
+
 use std::io;
 use std::io::{Read, Write};
 use striptext::{MAX_INPUT, answers};

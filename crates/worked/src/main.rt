@@ -1,4 +1,6 @@
 // The worked run, made on both backends: a line for each answer.
+#![tactic(auto)]
+
 use power::backend::PowfBackend;
 use power::fused::Fused;
 use power::portable::Portable;
