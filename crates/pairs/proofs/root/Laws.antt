@@ -7,7 +7,7 @@ use lib.Ieee.{Format, prec, low, hid, size, nearest, units, round}
 use lib.Ieee.Digits.{size-lt, size-le}
 use lib.Ieee.Fits.{round_is, two}
 use lib.Ieee.Nearest.{closest, closest_same}
-use Rattle.std.specs.Float.{isqrt-below, twice-sqrt-sticky}
+use lib.Ieee.{root_below, root_twice}
 use Rattle.pairs.specs.Root.{NearestRoot}
 
 -- ---- the whole part of a root
@@ -19,43 +19,43 @@ digit : (r n : ℕ) (b : Bool) → Root r (n / 4) → leb ((2 * r + 1) * (2 * r 
 digit r n true h e = (leb-true _ _ e, omega (arith, h.1))
 digit r n false h e = (omega (arith, h.0), leb-false _ _ e)
 
-below : (k n : ℕ) → n < 2 ^ k → Root (isqrt-below k n) n
-unfolding isqrt-below
+below : (k n : ℕ) → n < 2 ^ k → Root (root_below k n) n
+unfolding root_below
 below zero n h = omega arith
-below (suc k) n h = digit (isqrt-below k (n / 4)) n _ (below k (n / 4) (omega arith)) refl
+below (suc k) n h = digit (root_below k (n / 4)) n _ (below k (n / 4) (omega arith)) refl
 
 lt-of-squares : (a b : ℕ) → a * a < b * b → a < b
 lt-of-squares a b h = lt_of_not-le (λ (g : b ≤ a). omega (arith, mul-le-mul g g))
 
 -- ---- `root_twice n` and 2 h compare as n and h^2
 
-twice-lt : (n h : ℕ) → n < h * h → twice-sqrt-sticky n < 2 * h
-unfolding twice-sqrt-sticky
-twice-lt n h l = go (isqrt-below (size n) n) (eqb (isqrt-below (size n) n * isqrt-below (size n) n) n) (below (size n) n (size-lt n))
+twice-lt : (n h : ℕ) → n < h * h → root_twice n < 2 * h
+unfolding root_twice
+twice-lt n h l = go (root_below (size n) n) (eqb (root_below (size n) n * root_below (size n) n) n) (below (size n) n (size-lt n))
   where
     go : (s : ℕ) (b : Bool) → Root s n → 2 * s + cond b 0 1 < 2 * h
     go s true r = omega (arith, lt-of-squares s h (omega (arith, r.0)))
     go s false r = omega (arith, lt-of-squares s h (omega (arith, r.0)))
 
-twice-le : (n h : ℕ) → h * h ≤ n → 2 * h ≤ twice-sqrt-sticky n
-unfolding twice-sqrt-sticky
-twice-le n h l = go (isqrt-below (size n) n) (cond (eqb (isqrt-below (size n) n * isqrt-below (size n) n) n) 0 1) (below (size n) n (size-lt n))
+twice-le : (n h : ℕ) → h * h ≤ n → 2 * h ≤ root_twice n
+unfolding root_twice
+twice-le n h l = go (root_below (size n) n) (cond (eqb (root_below (size n) n * root_below (size n) n) n) 0 1) (below (size n) n (size-lt n))
   where
     go : (s c : ℕ) → Root s n → 2 * h ≤ 2 * s + c
     go s c r = omega (arith, lt-of-squares h (s + 1) (omega (arith, r.1)))
 
-twice-gt : (n h : ℕ) → h * h < n → 2 * h < twice-sqrt-sticky n
-unfolding twice-sqrt-sticky
-twice-gt n h l = go (isqrt-below (size n) n) (eqb (isqrt-below (size n) n * isqrt-below (size n) n) n) (below (size n) n (size-lt n)) (eqb-true _ n)
+twice-gt : (n h : ℕ) → h * h < n → 2 * h < root_twice n
+unfolding root_twice
+twice-gt n h l = go (root_below (size n) n) (eqb (root_below (size n) n * root_below (size n) n) n) (below (size n) n (size-lt n)) (eqb-true _ n)
   where
     go : (s : ℕ) (b : Bool) → Root s n → (b ≡ true → s * s ≡ n) → 2 * h < 2 * s + cond b 0 1
     go s true r e = omega (arith, lt-of-squares h s (omega (arith, e refl)))
     go s false r e = omega (arith, lt-of-squares h (s + 1) (omega (arith, r.1)))
 
 -- and at a square it is 2 h
-pub twice-square : (h : ℕ) → twice-sqrt-sticky (h * h) ≡ 2 * h
-unfolding twice-sqrt-sticky
-twice-square h = go (isqrt-below (size (h * h)) (h * h)) (below (size (h * h)) (h * h) (size-lt (h * h)))
+pub twice-square : (h : ℕ) → root_twice (h * h) ≡ 2 * h
+unfolding root_twice
+twice-square h = go (root_below (size (h * h)) (h * h)) (below (size (h * h)) (h * h) (size-lt (h * h)))
   where
     go : (s : ℕ) → Root s (h * h) → 2 * s + cond (eqb (s * s) (h * h)) 0 1 ≡ 2 * h
     go s r =
@@ -69,22 +69,22 @@ module _ (n q w : ℕ) (W : 0 < w) where
   abbrev scaled : ℕ
   scaled = n * (2 * w * (2 * w))
 
-  pub root-from : (a : ℕ) → a * a ≤ n → a * (4 * w) ≤ twice-sqrt-sticky scaled
+  pub root-from : (a : ℕ) → a * a ≤ n → a * (4 * w) ≤ root_twice scaled
   root-from a h = omega (arith, twice-le scaled (a * (2 * w)) (omega (arith, mul-le-mul_right (w * w) h)))
 
-  pub root-upto : (a : ℕ) → n < a * a → twice-sqrt-sticky scaled < a * (4 * w)
+  pub root-upto : (a : ℕ) → n < a * a → root_twice scaled < a * (4 * w)
   root-upto a h = omega (arith, twice-lt scaled (a * (2 * w)) (omega (arith, mul-lt-mul_of_pos_right h (mul-pos W W))))
 
-  pub root-below-half : n ≤ q * q + q → twice-sqrt-sticky scaled < q * (4 * w) + 2 * w
+  pub root-below-half : n ≤ q * q + q → root_twice scaled < q * (4 * w) + 2 * w
   root-below-half h = omega (arith, twice-lt scaled (2 * q * w + w) (omega (arith, mul-le-mul_right (w * w) h, mul-pos W W)))
 
-  pub root-above-half : 0 < q → q * q < n + q → q * (4 * w) < twice-sqrt-sticky scaled + 2 * w
+  pub root-above-half : 0 < q → q * q < n + q → q * (4 * w) < root_twice scaled + 2 * w
   root-above-half Q h = go (q - 1) (omega arith)
     where
-      go : (p : ℕ) → q ≡ p + 1 → q * (4 * w) < twice-sqrt-sticky scaled + 2 * w
+      go : (p : ℕ) → q ≡ p + 1 → q * (4 * w) < root_twice scaled + 2 * w
       go p e =
           let l : p * p + p + 1 ≤ n = omega (arith, ap (λ (x : ℕ). x * x) e) in
-          let t : 2 * (2 * p * w + w) < twice-sqrt-sticky scaled = twice-gt scaled (2 * p * w + w) (omega (arith, mul-le-mul_right (w * w) l, mul-pos W W)) in
+          let t : 2 * (2 * p * w + w) < root_twice scaled = twice-gt scaled (2 * p * w + w) (omega (arith, mul-le-mul_right (w * w) l, mul-pos W W)) in
           omega (arith, ap (λ (k : ℕ). k * (4 * w)) e)
 
 -- ---- the size of q
@@ -160,12 +160,12 @@ round-near f t den u q k D U e from upto lo hi =
 
 -- the root of n (2 w)^2, of as many whole digits as f keeps, is rounded to q
 pub root-rounds : (f : Format) (n q w den k : ℕ) → 0 < w → 0 < den → 4 * w * 2 ^ low f ≡ den * 2 ^ k → hid f * hid f ≤ n → n < 2 * hid f * (2 * hid f) → NearestRoot n q
-    → round f false (twice-sqrt-sticky (n * (2 * w * (2 * w)))) den ≡ units f false q k
+    → round f false (root_twice (n * (2 * w * (2 * w)))) den ≡ units f false q k
 root-rounds f n q w den k W D e from upto h =
     let Q : 0 < q = lt_of_lt_of_le (pow_pos (prec f - 1)) (root-at-least n q (hid f) h from) in
     let u : 2 * (2 * w) ≡ 4 * w = omega arith in
-    round-near f (twice-sqrt-sticky (n * (2 * w * (2 * w)))) den (2 * w) q k D (omega arith) (ap (λ (x : ℕ). x * 2 ^ low f) u ∙ e)
-    (subst (λ (x : ℕ). hid f * x ≤ twice-sqrt-sticky (n * (2 * w * (2 * w)))) (sym u) (root-from n q w W (hid f) from))
-    (subst (λ (x : ℕ). twice-sqrt-sticky (n * (2 * w * (2 * w))) < 2 * hid f * x) (sym u) (root-upto n q w W (2 * hid f) upto))
-    (subst (λ (x : ℕ). q * x < twice-sqrt-sticky (n * (2 * w * (2 * w))) + 2 * w) (sym u) (root-above-half n q w W Q h.above))
-    (subst (λ (x : ℕ). twice-sqrt-sticky (n * (2 * w * (2 * w))) < q * x + 2 * w) (sym u) (root-below-half n q w W h.below))
+    round-near f (root_twice (n * (2 * w * (2 * w)))) den (2 * w) q k D (omega arith) (ap (λ (x : ℕ). x * 2 ^ low f) u ∙ e)
+    (subst (λ (x : ℕ). hid f * x ≤ root_twice (n * (2 * w * (2 * w)))) (sym u) (root-from n q w W (hid f) from))
+    (subst (λ (x : ℕ). root_twice (n * (2 * w * (2 * w))) < 2 * hid f * x) (sym u) (root-upto n q w W (2 * hid f) upto))
+    (subst (λ (x : ℕ). q * x < root_twice (n * (2 * w * (2 * w))) + 2 * w) (sym u) (root-above-half n q w W Q h.above))
+    (subst (λ (x : ℕ). root_twice (n * (2 * w * (2 * w))) < q * x + 2 * w) (sym u) (root-below-half n q w W h.below))

@@ -1,5 +1,6 @@
 -- The f32 that the root reads and the one that it writes. Assumes nothing.
-use Rattle.std.proofs.Common.{◌≡◌, ℕ, zero, suc, ◌+◌, ◌-◌, ◌*◌, ◌/◌, ◌%◌, ◌^◌, ◌<◌, ◌≤◌, Bool, true, false, not, T, ◌⊎◌, ℤ, sym, refl, ap, ◌∙◌, subst, subst₂, inl, inr, true≢false, mul-le-mul_right, mul_assoc, eq-zero-or-pos, mul-lt-mul_of_pos_right, mul-pos, lt_of_not-le, zero-add, mul_right_comm, mul-div_cancel, arith, pow_pos, pow_mono, pow-add, ltb-false, le-ltb, eq-eqb, ne_eqb, le-leb}
+use Rattle.std.proofs.Common.{◌≡◌, ℕ, zero, suc, ◌+◌, ◌-◌, ◌*◌, ◌/◌, ◌%◌, ◌^◌, ◌<◌, ◌≤◌, Bool, true, false, not, T, ◌⊎◌, ℤ, pos, negsuc, eqb→eq, sym, refl, ap, ◌∙◌, subst, subst₂, inl, inr, true≢false, mul-le-mul_right, mul_assoc, eq-zero-or-pos, mul-lt-mul_of_pos_right, mul-pos, lt_of_not-le, zero-add, mul_right_comm, mul-div_cancel, arith, pow_pos, pow_mono, pow-add, ltb-false, le-ltb, eq-eqb, ne_eqb, le-leb}
+use native.Mathlib.Nat.{pow-succ', mul-one, one-mul}
 use lib.Count.{count_leading_zeros, leading_top}
 use borrow.Author.Tests.{lt-leb}
 use lib.Ieee.{Float, nan, inf, fin, binary32, up, down, units, round, div, lt, eq, fits, nan_bits, of_bits, to_bits}
@@ -7,7 +8,7 @@ use lib.Ieee.Bits.{of_bits-to_bits, nan_bits_above}
 use lib.Ieee.Exact.{HasValue}
 use lib.Ieee.Fits.{up_pos, down_pos}
 use Rattle.std.specs.Float as Floats
-use Rattle.std.specs.Float.{twice-sqrt-sticky, sqrt}
+use lib.Ieee.{root_twice, sqrt}
 use Rattle.pairs.specs.Root.{Parts, NearestRoot}
 use Rattle.pairs.proofs.Patterns.{steps, steps_low, steps_high, read, value, no_number, packed}
 use Rattle.pairs.proofs.root.Laws.{root-rounds, root-at-least, root-at-most}
@@ -65,17 +66,29 @@ zero_is = refl
 some : (m : ℕ) (e : ℤ) → 0 < suc m * up e * 1
 some m e = omega (arith, mul-pos {m = suc m} (omega arith) (up_pos e))
 
-pub of_zero : (x : Float) → eq x (of_bits binary32 0) ≡ true → x ≡ sqrt binary32 x
+-- a zero of a format is written in one way
+no_power : (k : ℕ) → 2 * 2 ^ k ≡ 1 → ⊥
+no_power k h = omega arith
+
+flat : (e : ℤ) → up e * down e ≡ 1 → e ≡ pos 0
+flat (pos zero) h = refl
+flat (pos (suc k)) h = absurd (no_power k (sym (pow-succ' 2 k) ∙ sym (mul-one (2 ^ suc k)) ∙ h))
+flat (negsuc k) h = absurd (no_power k (sym (pow-succ' 2 k) ∙ sym (one-mul (2 ^ suc k)) ∙ h))
+
+zero_exponent : (s : Bool) (e : ℤ) → T (fits binary32 (fin s zero e)) → e ≡ pos 0
+unfolding fits
+zero_exponent s e t = flat e (eqb→eq (up e * down e) 1 t)
+
+pub of_zero : (x : Float) → T (fits binary32 x) → eq x (of_bits binary32 0) ≡ true → x ≡ sqrt binary32 x
 unfolding eq sqrt
-of_zero x e = go x (sym (ap (eq x) zero_is) ∙ e)
+of_zero x X e = go x X (sym (ap (eq x) zero_is) ∙ e)
   where
-    go : (y : Float) → eq y Floats.float_zero ≡ true → y ≡ sqrt binary32 y
-    go nan h = refl
-    go (inf s) h = absurd (true≢false (sym h))
-    go (fin true zero d) h = refl
-    go (fin false zero d) h = refl
-    go (fin true (suc m) d) h = absurd (true≢false (sym (rw (ne_eqb (suc m * up d * 1) (0 * 1 * down d) (omega (arith, some m d))) at h)))
-    go (fin false (suc m) d) h = absurd (true≢false (sym (rw (ne_eqb (suc m * up d * 1) (0 * 1 * down d) (omega (arith, some m d))) at h)))
+    go : (y : Float) → T (fits binary32 y) → eq y Floats.float_zero ≡ true → y ≡ sqrt binary32 y
+    go nan X h = refl
+    go (inf s) X h = absurd (true≢false (sym h))
+    go (fin s zero d) X h = ap (fin s 0) (zero_exponent s d X)
+    go (fin true (suc m) d) X h = absurd (true≢false (sym (rw (ne_eqb (suc m * up d * 1) (0 * 1 * down d) (omega (arith, some m d))) at h)))
+    go (fin false (suc m) d) X h = absurd (true≢false (sym (rw (ne_eqb (suc m * up d * 1) (0 * 1 * down d) (omega (arith, some m d))) at h)))
 
 by_zero : div binary32 (of_bits binary32 0) (of_bits binary32 0) ≡ nan
 unfolding div of_bits
@@ -134,13 +147,13 @@ quotient a d v D e =
 none : (a v d : ℕ) → 0 < v → 0 < d → 0 * a * 2 ^ 172 ≡ v * d → ⊥
 none a v d V D e = omega (arith, mul-pos V D)
 
-of_positive : (x : Float) (v : ℕ) → 0 < v → HasValue x false v (2 ^ 172) → round binary32 false (twice-sqrt-sticky (v * 2 ^ 4370)) (2 ^ 2272) ≡ sqrt binary32 x
+of_positive : (x : Float) (v : ℕ) → 0 < v → HasValue x false v (2 ^ 172) → round binary32 false (root_twice (v * 2 ^ 4370)) (2 ^ 2272) ≡ sqrt binary32 x
 unfolding sqrt
 of_positive nan v V h = absurd h
 of_positive (inf s) v V h = absurd h
 of_positive (fin true m e) v V h = absurd (true≢false h.0)
 of_positive (fin false zero e) v V h = absurd (none (up e) v (down e) V (down_pos e) h.1)
-of_positive (fin false (suc m) e) v V h = ap (λ (n : ℕ). round binary32 false (twice-sqrt-sticky n) (2 ^ 2272)) (sym (quotient (suc m * up e) (down e) v (down_pos e) h.1))
+of_positive (fin false (suc m) e) v V h = ap (λ (n : ℕ). round binary32 false (root_twice n) (2 ^ 2272)) (sym (quotient (suc m * up e) (down e) v (down_pos e) h.1))
 
 -- ---- the radicand m 2^(24 - k % 2), of 47 or 48 digits
 
@@ -180,7 +193,7 @@ root_is x m k q v a b h =
     let i = radicand-in m k a b in
     let e : n * (2 * 2 ^ (j + 2121) * (2 * 2 ^ (j + 2121))) ≡ m * 2 ^ k * 2 ^ 4370 = ap (λ (t : ℕ). n * (t * t)) (twice j) ∙ powers m (24 - k % 2) (j + 2122) k (half-exponent k) in
     sym (root-rounds binary32 n q (2 ^ (j + 2121)) (2 ^ 2272) j (pow_pos (j + 2121)) (pow_pos 2272) (unit j) i.0 i.1 h)
-    ∙ ap (λ (t : ℕ). round binary32 false (twice-sqrt-sticky t) (2 ^ 2272)) e
+    ∙ ap (λ (t : ℕ). round binary32 false (root_twice t) (2 ^ 2272)) e
     ∙ of_positive x (m * 2 ^ k) (mul-pos (omega arith) (pow_pos k)) v
 
 -- ---- the result's pattern

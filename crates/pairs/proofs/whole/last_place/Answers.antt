@@ -4,5 +4,5 @@ use Rattle.pairs.proofs.whole.last_place.Goals as goal
 
 pub returns : goal.returns
 returns c =
-    let h = says c.args.x _ (subst T (sym c.well-formed.0.1) tt) c.f32-to-bits-with-nan-x-u.ensures in
+    let h = says c.args.x _ (subst T (sym c.well_formed.0.1) tt) c.f32_to_bits_with_nan-x_u.ensures in
     record { whole = h.0; odd = h.1 }

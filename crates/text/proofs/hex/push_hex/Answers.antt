@@ -7,8 +7,8 @@ pub loop-place-preserved : goal.loop-place-preserved
 loop-place-preserved c =
     let place = c.loop-place.place - 1 in
     let back : place + 1 ≡ c.loop-place.place = omega arith in
-    let char : c.hex-char.result ≡ hexadecimal (c.args.bits / 16 ^ place % 16) = c.hex-char.ensures ∙ ap hexadecimal (digit_shift c.args.bits place) in
-    let added = c.in-ok-push.ensures.items in
+    let char : c.hex_char.result ≡ hexadecimal (c.args.bits / 16 ^ place % 16) = c.hex_char.ensures ∙ ap hexadecimal (digit_shift c.args.bits place) in
+    let added = c.in_ok-push.ensures.items in
     let moved = places-more (vec_items c.loop-place.out) place c.args.bits in
     cc
 

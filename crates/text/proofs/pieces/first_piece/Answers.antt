@@ -11,16 +11,16 @@ returns-then-b-separator c = record {
   shorter = simp (take_rest, length-drop) (omega arith);
 }
 
-pub returns-then-is-empty : goal.returns-then-is-empty
+pub returns-then-is_empty : goal.returns-then-is_empty
 unfolding pieces
-returns-then-is-empty c = let none = true-eqb _ 0 c.if-is-empty.ensures in record {
+returns-then-is_empty c = let none = true-eqb _ 0 c.if-is_empty.ensures in record {
   cut = rw (nil_from_length c.args.text.now none);
   shorter = none;
 }
 
-pub returns-else-is-empty : goal.returns-else-is-empty
+pub returns-else-is_empty : goal.returns-else-is_empty
 unfolding pieces
-returns-else-is-empty c = let some = false-eqb _ 0 c.if-is-empty.ensures in record {
+returns-else-is_empty c = let some = false-eqb _ 0 c.if-is_empty.ensures in record {
   cut = pieces-last _ _ (omega arith) (λ k h. c.loop-i.invariant k (omega arith));
   shorter = omega arith;
 }
