@@ -2,15 +2,15 @@
 use Rattle.std.proofs.Common.{◌≡◌, ℕ, suc, ◌+◌, ◌-◌, ◌*◌, ◌/◌, ◌^◌, ◌<◌, ◌≤◌, false, T, ℤ, pos, negsuc, ◌+ℤ◌, sym, refl, ap, ◌∙◌, subst, one-mul, mul-one, div-one, mul-div_cancel, arith, pow_pos, pow-add}
 use lib.Ieee.{fin, binary32, up, down, round, fits}
 use lib.Ieee.Scale.{round_same}
-use Rattle.std.specs.Float.{twice-sqrt-sticky, sqrt}
+use lib.Ieee.{root_twice, sqrt}
 use Rattle.pairs.proofs.root.Laws.{twice-square}
 use Rattle.pairs.proofs.Powers.{pow-le-inv}
 use Rattle.power.specs.ValuesLemmas.{bounds}
 
 -- where n is the square of 2^h, and 2^(h + 1) / 2^2272 is a / b
-halved : (n h a b : ℕ) → 0 < b → n ≡ 2 ^ h * 2 ^ h → 2 * 2 ^ h * b ≡ a * 2 ^ 2272 → round binary32 false (twice-sqrt-sticky n) (2 ^ 2272) ≡ round binary32 false a b
+halved : (n h a b : ℕ) → 0 < b → n ≡ 2 ^ h * 2 ^ h → 2 * 2 ^ h * b ≡ a * 2 ^ 2272 → round binary32 false (root_twice n) (2 ^ 2272) ≡ round binary32 false a b
 halved n h a b B e s =
-    ap (λ (x : ℕ). round binary32 false (twice-sqrt-sticky x) (2 ^ 2272)) e ∙ ap (λ (x : ℕ). round binary32 false x (2 ^ 2272)) (twice-square (2 ^ h))
+    ap (λ (x : ℕ). round binary32 false (root_twice x) (2 ^ 2272)) e ∙ ap (λ (x : ℕ). round binary32 false x (2 ^ 2272)) (twice-square (2 ^ h))
     ∙ round_same binary32 false (2 * 2 ^ h) (2 ^ 2272) a b (pow_pos 2272) B s
 
 -- 2^(2 i), taken to 4542 binary places
@@ -45,7 +45,7 @@ twice (negsuc b) t =
     let i = suc b in
     let e : suc (suc (b + b)) ≡ i + i = omega arith in
     let h : i ≤ 2271 = few i (subst (λ (x : ℕ). x ≤ 149) e (pow-le-inv (suc (suc (b + b))) 149 (bounds binary32 false 1 (negsuc (suc (b + b))) t).fine)) in
-    ap (λ (x : ℕ). round binary32 false (twice-sqrt-sticky (1 * 1 * 2 ^ 4542 / 2 ^ x)) (2 ^ 2272)) e
+    ap (λ (x : ℕ). round binary32 false (root_twice (1 * 1 * 2 ^ 4542 / 2 ^ x)) (2 ^ 2272)) e
     ∙ halved (1 * 1 * 2 ^ 4542 / 2 ^ (i + i)) (2271 - i) (1 * 1) (2 ^ i) (pow_pos i) (square-down i 2271 4542 refl h) (value-down i 2271 2272 refl h)
 
 pub root-exact : (k j : ℤ) → T (fits binary32 (fin false 1 k)) → k ≡ j +ℤ j → sqrt binary32 (fin false 1 k) ≡ round binary32 false (1 * up j) (down j)

@@ -6,9 +6,9 @@ pub returns-then-r : goal.returns-then-r
 unfolding settled
 returns-then-r c = search rules
 
-pub returns-then-f64-to-bits-with-nan-ne0 : goal.returns-then-f64-to-bits-with-nan-ne0
+pub returns-then-f64_to_bits_with_nan-ne0 : goal.returns-then-f64_to_bits_with_nan-ne0
 unfolding settled
-returns-then-f64-to-bits-with-nan-ne0 c = search rules
+returns-then-f64_to_bits_with_nan-ne0 c = search rules
 
 pub returns-then-r-3 : goal.returns-then-r-3
 unfolding settled

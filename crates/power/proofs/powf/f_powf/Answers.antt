@@ -16,13 +16,13 @@ returns g c =
     let R = g.met.B.PowfBackend.rules b in
     let x = c.args.x in
     let y = c.args.y in
-    let X : T (fits binary32 x) = subst T (sym c.well-formed.0.1) tt in
-    let Y : T (fits binary32 y) = subst T (sym c.well-formed.1.0.1) tt in
-    let value : c.powf-gen.result ≡ power m x y = c.powf-gen.ensures in
+    let X : T (fits binary32 x) = subst T (sym c.well_formed.0.1) tt in
+    let Y : T (fits binary32 y) = subst T (sym c.well_formed.1.0.1) tt in
+    let value : c.powf_gen.result ≡ power m x y = c.powf_gen.ensures in
     record {
       value = value;
       special = subst (λ (r : Float). Special x y r) (sym value) (special m R x y X Y);
-      negative-zero = subst (λ (r : Float). NegativeZero x y r) (sym value) (negative-zero m R x y X Y);
+      negative_zero = subst (λ (r : Float). NegativeZero x y r) (sym value) (negative-zero m R x y X Y);
       exact = λ e. value ∙ exact m R x y X Y e;
       opposite = subst (λ (r : Float). Opposite x y r (power m (neg x) y)) (sym value) (opposite m R x y X Y);
     }

@@ -10,13 +10,13 @@ pub returns-then-x-2 : goal.returns-then-x-2
 unfolding power
 returns-then-x-2 g c = search rules
 
-pub returns-then-is-infinite : goal.returns-then-is-infinite
+pub returns-then-is_infinite : goal.returns-then-is_infinite
 unfolding power
-returns-then-is-infinite g c = search rules
+returns-then-is_infinite g c = search rules
 
-pub returns-then-is-infinite-2 : goal.returns-then-is-infinite-2
+pub returns-then-is_infinite-2 : goal.returns-then-is_infinite-2
 unfolding power
-returns-then-is-infinite-2 g c = search rules
+returns-then-is_infinite-2 g c = search rules
 
 pub returns-then-x-3 : goal.returns-then-x-3
 unfolding power

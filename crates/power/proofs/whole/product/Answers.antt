@@ -6,7 +6,7 @@ use Rattle.power.proofs.whole.product.Goals as goal
 
 pub loop-i-preserved : goal.loop-i-preserved
 loop-i-preserved c =
-    let w = c.f32-to-f64-with-nan-x-d.result in
+    let w = c.f32_to_f64_with_nan-x_d.result in
     let e : c.loop-i.i + 1 - 1 ≡ suc (c.loop-i.i - 1) = omega (arith, c.loop-i.invariant.1) in
     (ap (λ (r : Float). mul binary64 r w) c.loop-i.invariant.0 ∙ ap (repeated w) (sym e), omega (arith, c.loop-i.invariant.1), omega (arith, c.loop-i.invariant.1))
 
@@ -16,4 +16,4 @@ returns c =
     let i = c.loop-i.invariant in
     let e : c.loop-i.i - 1 ≡ c.args.n - 1 = omega (arith, i.1, i.2) in
     c.narrow.ensures
-    ∙ ap (round_to_format binary32) (i.0 ∙ ap (λ (x : Float). repeated x (c.loop-i.i - 1)) c.f32-to-f64-with-nan-x-d.ensures ∙ ap (repeated c.args.x) e)
+    ∙ ap (round_to_format binary32) (i.0 ∙ ap (λ (x : Float). repeated x (c.loop-i.i - 1)) c.f32_to_f64_with_nan-x_d.ensures ∙ ap (repeated c.args.x) e)
