@@ -1,7 +1,7 @@
 // The fused backend: it stands for a processor with fma, by additions and multiplications alone.
 ghost use Rattle.pairs.specs.Fused.{fused_sum};
 ghost use Rattle.power.specs.Backend.{fused as fused_arithmetic};
-ghost use Rattle.std.proofs.Common.{arith};
+ghost use Rattle.std.proofs.Common.{lit≤};
 ghost use Rattle.power.specs.Away.{away};
 ghost use Rattle.power.specs.ExponentTests.{tells-whole, tells-odd};
 ghost use Rattle.power.specs.FmaProducts.{fma-products};
@@ -27,7 +27,7 @@ impl PowfBackend for Fused {
 
     ghost rules = { λ b.
         record {
-          scalar = record { whole_told = tells-whole; odd_told = tells-odd; round_away = λ x X. away x X.0; fma_exact = fused-rule; err_least = omega arith; err_most = omega arith };
+          scalar = record { whole_told = tells-whole; odd_told = tells-odd; round_away = λ x X. away x X.0; fma_exact = fused-rule; err_least = lit≤ tt; err_most = lit≤ tt };
           products = fma-products fused_sum fused-rule;
         } };
 

@@ -1,6 +1,6 @@
 // The portable backend: a product is rounded, and then the sum.
 ghost use Rattle.power.specs.Backend.{portable as portable_arithmetic};
-ghost use Rattle.std.proofs.Common.{arith};
+ghost use Rattle.std.proofs.Common.{lit≤};
 ghost use Rattle.power.specs.Exact.{twice-rounded};
 ghost use Rattle.power.specs.Away.{away};
 ghost use Rattle.power.specs.ExponentTests.{tells-whole, tells-odd};
@@ -22,8 +22,8 @@ impl PowfBackend for Portable {
             odd_told = tells-odd;
             round_away = λ x X. away x X.0;
             fma_exact = λ x y z p r X Y Z. twice-rounded x y z p r X.0 Y.0 Z.0;
-            err_least = omega arith;
-            err_most = omega arith;
+            err_least = lit≤ tt;
+            err_most = lit≤ tt;
           };
           products = record {
             zero_left = quick-zero-left;

@@ -1,12 +1,41 @@
--- Powers as text, byte for byte: what a line says, and what is written for it. Assumes nothing.
-use Rattle.std.specs.Prelude.{ℕ, ◌+◌, cond, ◌&&◌, List, [], ◌∷◌, ◌++◌, length, take, drop, Some, None, codes, decimal, Option, ◌==◌, from_bits, nat_lt, slice_index, to_bits}
+-- Powers as text, byte for byte: how an input falls into lines, what a line says, and what is written for it. Assumes nothing.
+use Rattle.std.specs.Prelude.{ℕ, zero, suc, ◌+◌, ◌-◌, ◌*◌, ◌/◌, ◌%◌, ◌^◌, cond, ◌&&◌, List, [], ◌∷◌, ◌++◌, length, take, drop, Some, None, codes, decimal, Option, ◌==◌, from_bits, nat_le, nat_lt, slice_index, to_bits}
 use Rattle.std.specs.Float.{binary32}
 use Rattle.power.specs.Backend.{portable}
 use Rattle.power.specs.Powf.{power}
-use Rattle.text.specs.Hex.{hex8, pattern}
-use Rattle.text.specs.Pieces.{blank, lines, newline}
+
+abbrev pub newline : ℕ
+newline = 10
+
+abbrev pub blank : ℕ
+blank = 32
+
+-- ---- lines
+
+-- b in front of the first line, or alone where there is no line
+abbrev pub begun : ℕ → List (List ℕ) → List (List ℕ)
+begun b [] = (b ∷ []) ∷ []
+begun b (line ∷ more) = (b ∷ line) ∷ more
+
+-- a newline ends a line, also an empty one, and starts no other by itself; the last line may lack it
+unfoldable pub lines : List ℕ → List (List ℕ)
+lines [] = []
+lines (b ∷ bs) = cond (b == newline) ([] ∷ lines bs) (begun b (lines bs))
 
 -- ---- what a line says
+
+-- `0` to `9` and `a` to `f`: no other byte is a digit
+abbrev pub digit : ℕ → Option ℕ
+digit b = cond (nat_le 48 b && nat_le b 57) (Some (b - 48)) (cond (nat_le 97 b && nat_le b 102) (Some (b - 97 + 10)) None)
+
+-- the number that hexadecimal digits write after those that gave n; none if a byte is no digit
+unfoldable pub number : ℕ → List ℕ → Option ℕ
+number n [] = Some n
+number n (b ∷ bs) = elim (digit b) [ None ↦ None | Some d ↦ number (n * 16 + d) bs ]
+
+-- the number that exactly eight digits write
+abbrev pub pattern : List ℕ → Option ℕ
+pattern bs = cond (length bs == 8) (number 0 bs) None
 
 abbrev pub both : Option ℕ → Option ℕ → Option (ℕ × ℕ)
 both None y = None
@@ -18,6 +47,18 @@ abbrev pub parsed : List ℕ → Option (ℕ × ℕ)
 parsed line = cond (length line == 17 && slice_index line 8 == blank) (both (pattern (take 8 line)) (pattern (take 8 (drop 9 line)))) None
 
 -- ---- what is written
+
+-- the lower-case character of a digit
+abbrev pub hexadecimal : ℕ → ℕ
+hexadecimal d = cond (nat_lt d 10) (48 + d) (97 + (d - 10))
+
+-- the last k hexadecimal digits of n, the highest of them first
+unfoldable pub places : ℕ → ℕ → List ℕ
+places zero n = []
+places (suc k) n = hexadecimal (n / 16 ^ k % 16) ∷ places k n
+
+abbrev pub hex8 : ℕ → List ℕ
+hex8 n = places 8 n
 
 -- the bit pattern of the power, from those of x and y; every NaN is written 7fc00000
 abbrev pub powered : ℕ → ℕ → ℕ

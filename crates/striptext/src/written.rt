@@ -11,7 +11,7 @@ use text::hex::push_hex;
 fn push_number(out: &mut Vec<u8>, n: usize) -> Result<(), AllocError>
     ensures { OnOk result (out.new.items ≡ out.old.items ++ Spec.decimal n) }
 {
-    let text = format!(in out.allocator(); "{n}")?;
+    let text = format!(in *out.allocator(); "{n}")?;
     out.extend_from_slice(text.as_bytes())
 }
 

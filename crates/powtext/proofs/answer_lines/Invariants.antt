@@ -1,6 +1,5 @@
 use Rattle.std.proofs.Common.{◌≡◌, ◌+◌, ◌≤◌, ◌++◌, length, vec_items}
-use Rattle.text.specs.Pieces.{lines}
-use Rattle.powtext.specs.Format.{answered}
+use Rattle.powtext.specs.Format.{lines, answered}
 use Rattle.powtext.proofs.answer_lines.Given as goal
 
 -- what is written, with the answers to what is left, is the whole; each line took a byte or more, so its number stays small

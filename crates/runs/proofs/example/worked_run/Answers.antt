@@ -9,6 +9,6 @@ returns g c =
     let meaning = g.B.PowfBackend.meaning in
     let b = c.args.backend.now in
     record {
-      steps = c.worked-steps.ensures;
-      proper = subst (ProperRun meaning (start b lists)) (sym c.worked-steps.ensures) (worked-proper meaning b);
+      steps = c.worked_steps.ensures;
+      proper = subst (ProperRun meaning (start b lists)) (sym c.worked_steps.ensures) (worked-proper meaning b);
     }

@@ -11,7 +11,7 @@ use Rattle.runs.proofs.run.replay.Goals as goal
 pub loop-i-preserved : goal.loop-i-preserved
 loop-i-preserved g c =
     let turn = c.loop-i in
-    let done = c.step-once-done in
+    let done = c.step_once-done in
     one_more g.B.PowfBackend.meaning (world (Open c.new.result) (map vec_items c.args.lists.now) (length c.args.lists.now)) c.args.steps.now
     (world turn.strip (map vec_items turn.lists) turn.own) (world done.result.strip (map vec_items done.new.lists) done.result.own)
     turn.i (vec_items turn.answers) done.result.answer (record { list = Own; call = Spread }) c.loop-i-test.true turn.invariant

@@ -7,7 +7,7 @@ use Rattle.runs.specs.Run.{number, world, is_spread}
 use Rattle.runs.proofs.run.Turns.{MadeOn, own-number, given-number, within-lists, past-lists, step_is, step-answer}
 use Rattle.runs.proofs.run.step_once.Goals as goal
 use Rattle.runs.proofs.run.step_once.Goals.{in-Own, in-Numbered, then-number-lists, else-number-lists}
-use Rattle.runs.proofs.run.step_once.Goals.{then-is-count+then-is-spread, else-is-count, else-is-count-via-then-is-count+else-is-spread, else-is-count-via-else-is-count}
+use Rattle.runs.proofs.run.step_once.Goals.{then-is_count+then-is_spread, else-is_count, else-is_count-via-then-is_count+else-is_spread, else-is_count-via-else-is_count}
 
 pub returns : goal.returns
 returns g c =
@@ -27,34 +27,34 @@ returns g c =
     let made : MadeOn meaning any n s.call lists (map vec_items vs') after = elim c.if-number-lists.branch [
       | then-number-lists w ↦
           let v = w.index-lists-number.result in
-          let called = w.call-any in
+          let called = w.call_any in
           let handed = w.deref-mut in
           let cells' = called.new.cells in
           within-lists meaning any vec_items n s.call vs vs' after called.result w.strip-is v (with_items (get_or vs n v) cells') handed.result.now cells'
           w.if-number-lists.true handed.ensures.value w.lists-is (with_items_is (get_or vs n v) cells' (called.auto.cells ∙ handed.ensures.len))
           called.ensures.strip called.ensures.answer called.ensures.cells
       | else-number-lists w ↦
-          let called = w.call-any-else-number-lists in
+          let called = w.call_any-else-number-lists in
           past-lists meaning any vec_items n s.call vs vs' after called.result w.strip-is
           w.if-number-lists.false w.lists-is called.ensures.strip called.ensures.answer
     ] in
     let counted = is_count after.answer in
     let spread = is_spread s.call in
-    let own_is : c.if-is-count.own ≡ cond (counted && spread) n own = elim c.if-is-count.branch [
-      | then-is-count+then-is-spread w ↦
+    let own_is : c.if-is_count.own ≡ cond (counted && spread) n own = elim c.if-is_count.branch [
+      | then-is_count+then-is_spread w ↦
           w.own-is ∙ sym (cond-true (counted && spread) n own
-          (and_from counted spread (sym c.is_count.ensures ∙ w.if-is-count.true) (sym w.is_spread.ensures ∙ w.if-is-spread.true)))
-      | else-is-count w ↦
-          w.own-is ∙ sym (cond-false (counted && spread) n own (elim w.else-is-count.branch [
-            | else-is-count-via-then-is-count+else-is-spread v ↦ and_right counted spread (sym v.is_spread.ensures ∙ v.if-is-spread.false)
-            | else-is-count-via-else-is-count v ↦ and_left counted spread (sym c.is_count.ensures ∙ v.if-is-count.false)
+          (and_from counted spread (sym c.is_count.ensures ∙ w.if-is_count.true) (sym w.is_spread.ensures ∙ w.if-is_spread.true)))
+      | else-is_count w ↦
+          w.own-is ∙ sym (cond-false (counted && spread) n own (elim w.else-is_count.branch [
+            | else-is_count-via-then-is_count+else-is_spread v ↦ and_right counted spread (sym v.is_spread.ensures ∙ v.if-is_spread.false)
+            | else-is_count-via-else-is_count v ↦ and_left counted spread (sym c.is_count.ensures ∙ v.if-is_count.false)
           ]))
     ] in
     record {
-      world = step_is meaning any lists (map vec_items vs') own n s after n-is made c.if-is-count.own own_is;
+      world = step_is meaning any lists (map vec_items vs') own n s after n-is made c.if-is_count.own own_is;
       answer = step-answer meaning any lists (map vec_items vs') own n s after n-is made;
       singles = elim c.if-number-lists.branch [
-        | then-number-lists w ↦ w.call-any.ensures.singles
-        | else-number-lists w ↦ w.call-any-else-number-lists.ensures.singles
+        | then-number-lists w ↦ w.call_any.ensures.singles
+        | else-number-lists w ↦ w.call_any-else-number-lists.ensures.singles
       ];
     }

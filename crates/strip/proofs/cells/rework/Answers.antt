@@ -6,7 +6,7 @@ use Rattle.strip.specs.Cells.{absent, users}
 use Rattle.strip.specs.Patch.{under, reworked}
 use Rattle.strip.proofs.cells.Loops.{still, one_more, all_done, reworked-under, reworked-other}
 use Rattle.strip.proofs.cells.rework.Goals as goal
-use Rattle.strip.proofs.cells.rework.Goals.{then-is-under, else-is-under}
+use Rattle.strip.proofs.cells.rework.Goals.{then-is_under, else-is_under}
 
 pub loop-cell-preserved : goal.loop-cell-preserved
 loop-cell-preserved g c =
@@ -19,13 +19,13 @@ loop-cell-preserved g c =
     let lt = c.loop-cell-test.true in
     let inv = c.loop-cell.invariant in
     let same = ap (under k) (still f xs ys i absent lt inv.0) in
-    elim c.if-is-under.branch [
-      | then-is-under w ↦
-          let u = sym w.if-is-under.ensures in
+    elim c.if-is_under.branch [
+      | then-is_under w ↦
+          let u = sym w.if-is_under.ensures in
           let m = count_by_more_yes (under k) xs i absent lt (sym same ∙ u) in
           (w.cells-is ∙ one_more f xs ys i absent lt inv.0 _ (reworked-under p k c.args.curve (get_or ys i absent) _ u w.shown-cell.ensures), omega arith, omega arith)
-      | else-is-under w ↦
-          let u = sym w.if-is-under.ensures in
+      | else-is_under w ↦
+          let u = sym w.if-is_under.ensures in
           let m = count_by_more_no (under k) xs i absent lt (sym same ∙ u) in
           (w.cells-is ∙ one_more f xs ys i absent lt inv.0 _ (reworked-other p k c.args.curve (get_or ys i absent) u), omega arith, omega arith)
     ]

@@ -2,13 +2,13 @@ use Rattle.std.proofs.Common.{rules}
 use Rattle.striptext.specs.Step.{step}
 use Rattle.striptext.proofs.step.read_step.Goals as goal
 
-pub returns-in-err-word : goal.returns-in-err-word
+pub returns-in_err-word : goal.returns-in_err-word
 unfolding step
-returns-in-err-word c = search rules
+returns-in_err-word c = search rules
 
-pub returns-in-err-read-name : goal.returns-in-err-read-name
+pub returns-in_err-read_name : goal.returns-in_err-read_name
 unfolding step
-returns-in-err-read-name c = search rules
+returns-in_err-read_name c = search rules
 
 pub returns : goal.returns
 unfolding step

@@ -7,9 +7,9 @@ if-made (Ok x) left more none h = h
 if-made (Err y) left more none h = tt
 
 pub returns-in-NotAllowed : goal.returns-in-NotAllowed
-returns-in-NotAllowed c = simp c.in-NotAllowed.is (if-made c.extend-from-slice.result _ _ _ c.extend-from-slice.ensures.items)
+returns-in-NotAllowed c = simp c.in-NotAllowed.is (if-made c.extend_from_slice.result _ _ _ c.extend_from_slice.ensures.items)
 
-pub returns-in-ok-extend-from-slice : goal.returns-in-ok-extend-from-slice
-returns-in-ok-extend-from-slice c =
-    let word = c.in-ok-extend-from-slice.ensures.items in
-    simp c.in-Refused.is (simp (word, c.number.ensures, append_assoc) at c.push-number.ensures)
+pub returns-in_ok-extend_from_slice : goal.returns-in_ok-extend_from_slice
+returns-in_ok-extend_from_slice c =
+    let word = c.in_ok-extend_from_slice.ensures.items in
+    simp c.in-Refused.is (simp (word, c.number.ensures, append_assoc) at c.push_number.ensures)

@@ -10,9 +10,9 @@ regroup done reading curve shown = simp append_assoc
 pub returns : goal.returns
 returns c =
     let view = c.args.view in
-    let first = c.in-ok-push-float.ensures in
-    let second = c.in-ok-push.ensures.items in
-    let third = c.in-ok-push-number.ensures in
-    let fourth = c.in-ok-push-2.ensures.items in
+    let first = c.in_ok-push_float.ensures in
+    let second = c.in_ok-push.ensures.items in
+    let third = c.in_ok-push_number.ensures in
+    let fourth = c.in_ok-push-2.ensures.items in
     simp (fourth, third, second, first, regroup (vec_items c.args.out.now) (float view.reading) (decimal view.curve) (float view.shown))
-    at c.push-float-2.ensures
+    at c.push_float-2.ensures
