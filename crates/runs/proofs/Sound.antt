@@ -1,7 +1,7 @@
 -- What holds of every model that a run leads to. Assumes nothing.
 use Rattle.std.proofs.Common.{◌≡◌, true, T, List, length, is_some, Some, None, Option}
 use lib.Ieee.{binary32, fits}
-use Rattle.std.specs.List.{AllByRecursion as All}
+use Rattle.std.specs.List.{AllByRecursion}
 use Rattle.strip.specs.Curve.{in_table}
 use Rattle.strip.specs.declared.curve.Curve.{Curve}
 use Rattle.runs.specs.Model.{Entry, Model}
@@ -19,5 +19,5 @@ SoundEntry curves (Some e) = T (fits binary32 e.reading) × (is_some (in_table c
 pub record Sound (m : Model) : Type 0 where
   pub sixteen : length m.curves ≡ 16
   pub counted : length m.patches ≡ m.count
-  pub exponents : All SoundCurve m.curves
-  pub entries : All (SoundEntry m.curves) m.patches
+  pub exponents : AllByRecursion SoundCurve m.curves
+  pub entries : AllByRecursion (SoundEntry m.curves) m.patches

@@ -4,7 +4,7 @@ use lib.Ieee.{Float, binary32, fits}
 use Rattle.std.proofs.ByRecursion.{All-set}
 use Rattle.std.proofs.lemmas.List.{length-replicate, length-set}
 use Rattle.std.proofs.lemmas.Bool.{cases_eq}
-use Rattle.std.specs.List.{AllByRecursion as All}
+use Rattle.std.specs.List.{AllByRecursion}
 use Rattle.strip.specs.Curve.{in_table}
 use Rattle.strip.specs.declared.curve.Curve.{Curve}
 use Rattle.runs.specs.Model.{Entry, Model, entry_under, re_curved, re_read, with_curve, with_patch}
@@ -25,7 +25,7 @@ module _ (curves : List (Option Curve)) where
 
   -- where a curve is set
   pub all-still-set : (k : ℕ) (c : Curve) → k ≤ 15 → length curves ≡ 16 → (es : List (Option Entry))
-      → All (SoundEntry curves) es → All (SoundEntry (set curves k (Some c))) es
+      → AllByRecursion (SoundEntry curves) es → AllByRecursion (SoundEntry (set curves k (Some c))) es
   all-still-set k c low sixteen [] all = tt
   all-still-set k c low sixteen (None ∷ es) all = (tt, all-still-set k c low sixteen es all.1)
   all-still-set k c low sixteen (Some e ∷ es) all = ((all.0.0, here), all-still-set k c low sixteen es all.1)
@@ -39,7 +39,7 @@ module _ (curves : List (Option Curve)) where
 
   -- where a curve with nothing under it is written
   pub all-beside : (k : ℕ) (c : Option Curve) (es : List (Option Entry)) → count_by (entry_under k) es ≡ 0
-      → All (SoundEntry curves) es → All (SoundEntry (set curves k c)) es
+      → AllByRecursion (SoundEntry curves) es → AllByRecursion (SoundEntry (set curves k c)) es
   all-beside k c [] none all = tt
   all-beside k c (None ∷ es) none all = (tt, all-beside k c es (none_more k es none) all.1)
   all-beside k c (Some e ∷ es) none all =
@@ -58,7 +58,7 @@ module _ (m : Model) (sound : Sound m) where
         entries = All-set (SoundEntry m.curves) m.patches i e new sound.entries;
       }
 
-  pub curve-sound : (k : ℕ) (c : Option Curve) → SoundCurve c → All (SoundEntry (set m.curves k c)) m.patches → Sound (with_curve m k c)
+  pub curve-sound : (k : ℕ) (c : Option Curve) → SoundCurve c → AllByRecursion (SoundEntry (set m.curves k c)) m.patches → Sound (with_curve m k c)
   curve-sound k c new entries =
       record {
         sixteen = length-set m.curves k c ∙ sound.sixteen;

@@ -17,7 +17,7 @@ use Rattle.runs.specs.declared.state.AnyStrip.{AnyStrip}
 use Rattle.runs.specs.declared.state.AnyStrip.TheVariants.{Open, Finished}
 use Rattle.std.proofs.ByRecursion.{All-weaker}
 use Rattle.std.proofs.lemmas.Bool.{both_ways, cases_Bool, cond-false, cond-true, not-false, or_parts}
-use Rattle.std.specs.List.{AllByRecursion as All}
+use Rattle.std.specs.List.{AllByRecursion}
 use Rattle.strip.specs.Refusal.{left}
 use Rattle.strip.specs.declared.call.Call.{Call}
 use Rattle.strip.specs.declared.call.Call.TheVariants.{Spread, SetCurve, DropCurve, LayPatch, ChangeReading, MovePatch, LiftPatch, ReadPatch, Finish, Reopen}
@@ -149,7 +149,7 @@ module _ {B : Type 0} (b : B) where
       ∙ sym (cond-false (allowed (is_open w.strip) s.call) _ _ (allowed-told w.strip s.call ∙ deny)))
       (cases_Bool (allows w.strip s.call))
 
-  run-told : (steps : List Step) (w : World B) (m : Model) (got : List Answer) → Sized w → All (Fits w.lists) steps
+  run-told : (steps : List Step) (w : World B) (m : Model) (got : List Answer) → Sized w → AllByRecursion (Fits w.lists) steps
       → (inside w.strip).count ≡ m.count → StepLaws meaning b w m steps got → got ≡ replies (is_open w.strip) m steps
   run-told [] w m [] sized fit same laws = refl
   run-told [] w m (a ∷ more) sized fit same laws = absurd laws
@@ -160,7 +160,7 @@ module _ {B : Type 0} (b : B) where
       laws.0.after.agrees.count laws.1)
 
   -- from the opening
-  pub session-told : (lists : List (List Patch)) (steps : List Step) (end : World B) (got : List Answer) → All (Fits lists) steps
+  pub session-told : (lists : List (List Patch)) (steps : List Step) (end : World B) (got : List Answer) → AllByRecursion (Fits lists) steps
       → (ProperRun meaning (start b lists) steps → Law meaning b lists steps end got) → got ≡ replies true opening steps
   session-told lists steps end got fit law =
       run-told steps (start b lists) opening got (start-sized b lists) fit refl (law (run-proper meaning steps (start b lists) (start-sized b lists) fit)).each

@@ -9,7 +9,7 @@ use Rattle.runs.specs.declared.run.Step.{Step}
 use Rattle.std.proofs.ByRecursion.{All-weaker}
 use Rattle.std.proofs.lemmas.List.{get_or_past}
 use Rattle.std.proofs.lemmas.Bool.{and_from, and_parts, both_ways, cases_Bool, cond_both, eq-eqb, eqb-true, not-true, or_left, or_right}
-use Rattle.std.specs.List.{AllByRecursion as All}
+use Rattle.std.specs.List.{AllByRecursion}
 use Rattle.strip.specs.Strip.{observed, refusal}
 use Rattle.strip.specs.declared.call.Call.{Call}
 use Rattle.strip.specs.declared.patch.Patch.{Patch}
@@ -101,7 +101,7 @@ module _ {B : Type 0} (meaning : B → Arithmetic) (w : World B) (s : Step) wher
 -- ---- a run
 
 module _ {B : Type 0} (meaning : B → Arithmetic) where
-  pub run-proper : (steps : List Step) (w : World B) → Sized w → All (Fits w.lists) steps → ProperRun meaning w steps
+  pub run-proper : (steps : List Step) (w : World B) → Sized w → AllByRecursion (Fits w.lists) steps → ProperRun meaning w steps
   run-proper [] w sized fit = tt
   run-proper (s ∷ steps) w sized fit =
       (step-proper w sized s fit.0, run-proper steps (stepped meaning w s) (step-sized meaning w s sized fit.0) (All-weaker _ _ (still-fits meaning w s) steps fit.1))

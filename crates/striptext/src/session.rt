@@ -1,6 +1,6 @@
 // An input of calls, made one after another on one strip, with a line of output for each line.
 ghost use Rattle.std.specs.Prelude.{◌≡◌, map, IfOk, vec_items};
-ghost use Rattle.std.specs.List.{AllByRecursion as All};
+ghost use Rattle.std.specs.List.{AllByRecursion};
 ghost use Rattle.striptext.specs.Session as Spec;
 ghost use Rattle.striptext.specs.Step as Steps;
 ghost use Rattle.text.specs.Pieces.{lines};
@@ -45,7 +45,7 @@ fn calls(heap: Global, read: &[Option<Step>]) -> Result<Vec<Step>, AllocError>
 
 // Lists of empty cells: under each number that a call names, one of so many.
 fn lists_for(heap: Global, steps: &[Step]) -> Result<Vec<Vec<Patch>>, AllocError>
-    ensures { IfOk result (λ v. All (Spec.Fits (map vec_items v.items)) steps.now) }
+    ensures { IfOk result (λ v. AllByRecursion (Spec.Fits (map vec_items v.items)) steps.now) }
 {
     let mut lists = Vec::new(heap);
     for step in steps {

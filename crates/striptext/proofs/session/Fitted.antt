@@ -7,7 +7,7 @@ use Rattle.runs.specs.declared.run.Step.{Step}
 use Rattle.std.proofs.ByRecursion.{All-more, All-weaker}
 use Rattle.std.proofs.lemmas.List.{get_or-map, get_or-set_other, get_or-set_same, map_push, map-set}
 use Rattle.std.proofs.lemmas.Bool.{cases_eq}
-use Rattle.std.specs.List.{AllByRecursion as All}
+use Rattle.std.specs.List.{AllByRecursion}
 use Rattle.strip.specs.declared.call.Call.{Call}
 use Rattle.strip.specs.declared.patch.Patch.{Patch}
 use Rattle.striptext.specs.Session.{Fits}
@@ -35,12 +35,12 @@ module _ (lists : List (List Patch)) (n : ℕ) (new : List Patch) (full : length
 
 module _ {V : Type 0} (items : V → List Patch) where
   abbrev pub Fit : List V → List Step → Type 0
-  Fit vs steps = All (Fits (map items vs)) steps
+  Fit vs steps = AllByRecursion (Fits (map items vs)) steps
 
   pub grown-fit : (vs vs' : List V) (v : V) (steps : List Step) → vs' ≡ vs ++ v ∷ [] → items v ≡ [] → Fit vs steps → Fit vs' steps
   grown-fit vs vs' v steps grown empty fit =
       let are : map items vs' ≡ map items vs ++ [] ∷ [] = ap (map items) grown ∙ map_push items vs v ∙ ap (λ l. map items vs ++ l ∷ []) empty in
-      subst (λ lists. All (Fits lists) steps) (sym are)
+      subst (λ lists. AllByRecursion (Fits lists) steps) (sym are)
       (All-weaker _ _ (λ t. fits-as-long (map items vs) (map items vs ++ [] ∷ []) (λ n. ap length (empty-behind (map items vs) n)) t.list t.call) steps fit)
 
   -- the next call
@@ -62,5 +62,5 @@ module _ {V : Type 0} (items : V → List Patch) where
           let inside : n < length (map items vs) = omega (arith, length-map vs items) in
           let before = All-weaker _ _ (λ t. made-fits (map items vs) n (items v) full inside t.list t.call) (take i steps) fit in
           All-more (Fits (map items vs')) steps i none lt
-          (subst (λ lists. All (Fits lists) (take i steps)) are before)
+          (subst (λ lists. AllByRecursion (Fits lists) (take i steps)) are before)
           (subst (FitsBy vs') (sym is) (ap (λ lists. length (get_or lists n [])) (sym are) ∙ made-full (map items vs) n (items v) full inside))

@@ -28,7 +28,7 @@ returns g c =
       | then-number-lists w ↦
           let v = w.index-lists-number.result in
           let called = w.call_any in
-          let handed = w.deref-mut in
+          let handed = w.deref_mut in
           let cells' = called.new.cells in
           within-lists meaning any vec_items n s.call vs vs' after called.result w.strip-is v (with_items (get_or vs n v) cells') handed.result.now cells'
           w.if-number-lists.true handed.ensures.value w.lists-is (with_items_is (get_or vs n v) cells' (called.auto.cells ∙ handed.ensures.len))

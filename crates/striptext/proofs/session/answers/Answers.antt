@@ -2,7 +2,7 @@ use Rattle.std.proofs.Common.{◌≡◌, true, map, vec_items, sym, ap, ◌∙�
 use Rattle.runs.specs.Model.{opening}
 use Rattle.runs.specs.Run.{world}
 use Rattle.std.proofs.lemmas.Result.{IfOk-weaker}
-use Rattle.std.specs.List.{AllByRecursion as All}
+use Rattle.std.specs.List.{AllByRecursion}
 use Rattle.striptext.specs.Session.{Fits, calls, replies}
 use Rattle.striptext.specs.Step.{step}
 use Rattle.text.specs.Pieces.{lines}
@@ -12,7 +12,7 @@ use Rattle.striptext.proofs.session.answers.Goals as goal
 
 pub returns-then-input-gt-MAX_INPUT : goal.returns-then-input-gt-MAX_INPUT
 returns-then-input-gt-MAX_INPUT c =
-    IfOk-weaker c.from_slice.result _ _ (λ v got. got.0 ∙ too_long c.args.input.now c.if-input-gt-MAX_INPUT.true) c.from_slice.ensures.made
+    IfOk-weaker c.from_slice.result _ _ (λ v got. got ∙ too_long c.args.input.now c.if-input-gt-MAX_INPUT.true) c.from_slice.ensures.items
 
 pub returns : goal.returns
 returns c =
@@ -23,8 +23,8 @@ returns c =
     let reads : read ≡ map step (lines c.args.input.now) = c.as_slice-4.ensures.value ∙ c.in_ok-read.ensures in
     let steps-are : steps ≡ calls read =
     c.as_slice-3.ensures.value ∙ c.in_ok-steps.ensures ∙ ap calls (c.as_slice.ensures.value ∙ sym c.as_slice-4.ensures.value) in
-    let fit : All (Fits (map vec_items lists)) steps =
-    subst₂ (λ vs ss. All (Fits (map vec_items vs)) ss) (sym c.as_mut_slice.ensures.value) (c.as_slice-2.ensures.value ∙ sym c.as_slice-3.ensures.value)
+    let fit : AllByRecursion (Fits (map vec_items lists)) steps =
+    subst₂ (λ vs ss. AllByRecursion (Fits (map vec_items vs)) ss) (sym c.as_mut_slice.ensures.value) (c.as_slice-2.ensures.value ∙ sym c.as_slice-3.ensures.value)
     c.in_ok-lists.ensures in
     let told : vec_items done.answers ≡ replies true opening steps =
     session-told _ (map vec_items lists) steps (world done.strip (map vec_items c.replay.new.lists) done.own) (vec_items done.answers) fit

@@ -2,7 +2,7 @@ use Rattle.std.proofs.Common.{◌≡◌, ◌+◌, ◌<◌, length, get_or, take,
 use Rattle.runs.specs.declared.run.Handed.TheVariants.{Own}
 use Rattle.runs.specs.declared.run.Step.{Step}
 use Rattle.std.proofs.lemmas.List.{take_all}
-use Rattle.std.specs.List.{AllByRecursion as All}
+use Rattle.std.specs.List.{AllByRecursion}
 use Rattle.strip.specs.declared.call.Call.TheVariants.{Spread}
 use Rattle.striptext.proofs.session.Fitted.{Fit, full-fit, grown-fit, made-fit, own-fit}
 use Rattle.striptext.proofs.session.lists_for.Goals as goal
@@ -38,4 +38,4 @@ loop-step-preserved c =
     ]
 
 pub returns : goal.returns
-returns c = subst (All _) (take_all c.loop-step.step-index c.args.steps.now c.loop-step-test.false) c.loop-step.invariant
+returns c = subst (AllByRecursion _) (take_all c.loop-step.step-index c.args.steps.now c.loop-step-test.false) c.loop-step.invariant
