@@ -18,7 +18,9 @@ powf-r2=powf_r2_list log2-r2-dd=log2_r2_dd_list exp2-mid1=exp2_mid1_list
 fromBits=from_bit_pair minusOne=negative_one
 of-result is-count on-own cell-of sets-curve-of curve-in patch-in entry-under users-in objection-in
 with-curve with-patch re-curved is-spread allowed-open allowed-finished all-reworked curve-number
-cells-handed number-first float-first set-curve drop-curve lay-patch change-reading move-patch
+not-allowed model-after shown-under own-cells is-own answer-of in-state strip-after cells-after
+patch-number curve-unset patch-filled patch-empty curve-in-use with-count with-curves curve-of
+strip-made patch-laid cells-made cells-handed number-first float-first set-curve drop-curve lay-patch change-reading move-patch
 lift-patch read-patch
 h-is h-short l-is l-short both-or-neither err-least err-most even-keeps fma-exact infinite-at-one
 infinity-down infinity-up minus-infinity-above minus-infinity-below minus-infinity-down
@@ -80,6 +82,8 @@ def source(text):
 
 
 for path in sorted(glob.glob("crates/**/*", recursive=True)):
+    if "/out/" in path:
+        continue
     turn = antt if path.endswith(".antt") else source if path.endswith((".rt", ".edit")) else None
     if turn is None:
         continue

@@ -2,7 +2,7 @@
 use Rattle.std.proofs.Common.{◌≡◌, ℕ, zero, suc, ◌+◌, ◌-◌, ◌*◌, ◌/◌, ◌%◌, ◌^◌, ◌<◌, ◌≤◌, Bool, true, false, cond, not, T, ℤ, pos, negsuc, ◌+ℤ◌, ◌-ℤ◌, ◌*ℤ◌, neg_ℤ, nat_abs, sym, refl, ap, ◌∙◌, subst, le_trans, le_of_eq, le_refl, lt_of_lt_of_le, lt_of_le_of_lt, le_of_lt, mul-le-mul_right, lt_of_mul-lt-mul_right, mul-pos, lt_of_not-le, le_of_mul-le-mul_right, arith, pow_pos, pow_mono, pow-add}
 use borrow.Author.Differences.{ints}
 use lib.Pow.{pow-lt}
-use lib.Ieee.{Float, nan, inf, fin, binary64, size, hid, top, units, to_bits, of_bits, is_nan, fits}
+use lib.Ieee.{Float, nan, inf, fin, binary64, size, hid, top, to_bits, of_bits, is_nan, fits}
 use lib.Ieee.Digits.{size-lt, size_reaches}
 use lib.Ieee.Bits.{of_bits-fits, to_bits-of_bits}
 use lib.Ieee.Exact.{HasValue, units_val}

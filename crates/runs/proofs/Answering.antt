@@ -8,7 +8,7 @@ use Rattle.strip.specs.Cells.{at, users}
 use Rattle.strip.specs.Curve.{counted, in_table}
 use Rattle.strip.specs.Patch.{view}
 use Rattle.strip.specs.Refusal.{places}
-use Rattle.strip.specs.Strip.{refusal, patch-laid}
+use Rattle.strip.specs.Strip.{refusal, patch_laid}
 use Rattle.strip.specs.declared.call.Call.{Call}
 use Rattle.strip.specs.declared.call.Call.TheVariants.{Spread, SetCurve, DropCurve, LayPatch, ChangeReading, MovePatch, LiftPatch, ReadPatch, Finish, Reopen}
 use Rattle.strip.specs.declared.patch.Patch as Cell
@@ -17,7 +17,7 @@ use Rattle.strip.specs.declared.strip.Strip.{Strip}
 use Rattle.runs.specs.Answer.{reply}
 use Rattle.runs.specs.Law.{Agrees, cell_of}
 use Rattle.runs.specs.Model as Model
-use Rattle.runs.specs.Model.{Entry, Model, objection_in, of_entry, patch_in, seen, shown-under}
+use Rattle.runs.specs.Model.{Entry, Model, objection_in, of_entry, patch_in, seen, shown_under}
 use Rattle.runs.specs.Run.{works}
 use Rattle.runs.specs.State.{value}
 use Rattle.runs.specs.declared.answer.Answer.{Answer}
@@ -51,7 +51,7 @@ module _ {B : Type 0} (meaning : B → Arithmetic) (b : B) (s : Strip B) (cells 
   entry_seen : (i : ℕ) (e : Entry) → patch_in m i ≡ Some e → at cells i ≡ cell_of p m.curves (Some e)
   entry_seen i e is = ap (λ cs. at cs i) agrees.patches ∙ cell_at p m.curves m.patches i e is
 
-  laid-seen : (k : ℕ) (x : Float) → (patch-laid meaning s k x).shown ≡ shown-under p m k x
+  laid-seen : (k : ℕ) (x : Float) → (patch_laid meaning s k x).shown ≡ shown_under p m k x
   laid-seen k x j = power (meaning (agrees.backend j)) x (counted (in_table (agrees.curves j) k)).exponent
 
   value-seen : (call : Call) → objection_in m call (length cells) ≡ None → value meaning s cells call ≡ Model.value p m call (length cells)
@@ -61,10 +61,10 @@ module _ {B : Type 0} (meaning : B → Arithmetic) (b : B) (s : Strip B) (cells 
   value-seen (LayPatch i x k) none = ap Value (laid-seen k x)
   value-seen (ChangeReading i x) none =
       by-entry (patch_in m i) _ _ (not-false (is_some (patch_in m i)) (unobjected (places (ChangeReading i x) (seen m (length cells))) none).1.1.0)
-      (λ e is. ap (λ (q : Cell.Patch). Value (patch-laid meaning s q.curve x).shown) (entry_seen i e is) ∙ ap Value (laid-seen e.curve x))
+      (λ e is. ap (λ (q : Cell.Patch). Value (patch_laid meaning s q.curve x).shown) (entry_seen i e is) ∙ ap Value (laid-seen e.curve x))
   value-seen (MovePatch i k) none =
       by-entry (patch_in m i) _ _ (not-false (is_some (patch_in m i)) (unobjected (places (MovePatch i k) (seen m (length cells))) none).1.1.1.1.0)
-      (λ e is. ap (λ (q : Cell.Patch). Value (patch-laid meaning s k q.reading).shown) (entry_seen i e is) ∙ ap Value (laid-seen k e.reading))
+      (λ e is. ap (λ (q : Cell.Patch). Value (patch_laid meaning s k q.reading).shown) (entry_seen i e is) ∙ ap Value (laid-seen k e.reading))
   value-seen (LiftPatch i) none =
       by-entry (patch_in m i) _ _ (not-false (is_some (patch_in m i)) (unobjected (places (LiftPatch i) (seen m (length cells))) none).1.1.0)
       (λ e is. ap (λ (q : Cell.Patch). Value q.reading) (entry_seen i e is))

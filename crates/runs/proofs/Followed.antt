@@ -5,7 +5,7 @@ use Rattle.power.specs.Backend.{Arithmetic}
 use Rattle.std.proofs.lemmas.Bool.{both_ways, cases_Bool}
 use Rattle.strip.specs.Refusal.{left}
 use Rattle.strip.specs.Strip as Strips
-use Rattle.strip.specs.Strip.{refusal, strip-made}
+use Rattle.strip.specs.Strip.{refusal, strip_made}
 use Rattle.strip.specs.declared.call.Call.{Call}
 use Rattle.strip.specs.declared.call.Call.TheVariants.{Spread, SetCurve, DropCurve, LayPatch, ChangeReading, MovePatch, LiftPatch, ReadPatch, Finish, Reopen}
 use Rattle.strip.specs.declared.patch.Patch.{Patch}
@@ -13,11 +13,10 @@ use Rattle.strip.specs.declared.refusal.Refusal.{Refusal}
 use Rattle.strip.specs.declared.strip.Strip.{Strip}
 use Rattle.runs.specs.Law.{Agrees, followed}
 use Rattle.runs.specs.Model.{Model, fed, objection_in, written}
-use Rattle.runs.specs.Run.{World, accepted, handed, is-own, is_spread, own-cells, stepped, works, Proper}
-use Rattle.runs.specs.State.{allows, cells-after, in-state, inside, kept, Singles}
+use Rattle.runs.specs.Run.{World, accepted, handed, is_own, is_spread, own_cells, stepped, works, Proper}
+use Rattle.runs.specs.State.{allows, cells_after, in_state, inside, Singles}
 use Rattle.runs.specs.declared.run.Step.{Step}
 use Rattle.runs.specs.declared.state.AnyStrip.{AnyStrip}
-use Rattle.runs.specs.declared.state.AnyStrip.TheVariants.{Open, Finished}
 use Rattle.runs.proofs.Inside.{inside-state}
 use Rattle.runs.proofs.Lists.{handed-own, other_after, own-after}
 use Rattle.runs.proofs.Seen.{refusal-seen}
@@ -28,12 +27,12 @@ use Rattle.runs.proofs.Written.{Follows, Written, others-written, own-written}
 
 module _ {B : Type 0} where
   inside-either : (allowed : Bool) (any : AnyStrip B) (call : Call) (s : Strip B)
-      → inside (cond allowed (in-state any call s) any) ≡ cond allowed s (inside any)
+      → inside (cond allowed (in_state any call s) any) ≡ cond allowed s (inside any)
   inside-either true any call s = inside-state any call s
   inside-either false any call s = refl
 
   abbrev after : AnyStrip B → List Patch → Call → Strip B
-  after any cells call = cond (allows any call) (Strips.strip-after call (inside any) cells) (inside any)
+  after any cells call = cond (allows any call) (Strips.strip_after call (inside any) cells) (inside any)
 
 module _ {B : Type 0} (meaning : B → Arithmetic) (b : B) where
   -- ---- a call that is allowed or not, and refused or not
@@ -65,13 +64,13 @@ module _ {B : Type 0} (meaning : B → Arithmetic) (b : B) where
 
   module _ (any : AnyStrip B) (cells : List Patch) (m : Model) (sound : Sound m) (agrees : Agrees meaning b (inside any) cells m) where
     own-follows : (call : Call) → (allows any call ≡ true → Singles call)
-        → Follows meaning b (after any cells call) (cells-after meaning any cells call) (cond (allows any call) (fed m call (length cells) true) m)
+        → Follows meaning b (after any cells call) (cells_after meaning any cells call) (cond (allows any call) (fed m call (length cells) true) m)
     own-follows call singles =
         let s : Strip B = inside any in
         let allowed : Bool = allows any call in
         let model : Model = cond allowed (fed m call (length cells) true) m in
-        let s' : Strip B = strip-made call s cells in
-        let cells' : List Patch = Strips.cells-made meaning call s cells in
+        let s' : Strip B = strip_made call s cells in
+        let cells' : List Patch = Strips.cells_made meaning call s cells in
         let After : Option Refusal → Type 0 = λ o. Follows meaning b (cond allowed (left o s s') s) (cond allowed (left o cells cells') cells) model in
         let o : Option Refusal = objection_in m call (length cells) in
         let made : allowed ≡ true → o ≡ None → Written meaning b m s cells call = λ is none. own-written meaning b m sound s cells agrees call none (singles is) in
@@ -83,13 +82,13 @@ module _ {B : Type 0} (meaning : B → Arithmetic) (b : B) where
 
       abbrev OthersFollow : Call → Type 0
       OthersFollow call =
-          Follows meaning b (after any others call) (cond (is_spread call && accepts call) (cells-after meaning any others call) cells)
+          Follows meaning b (after any others call) (cond (is_spread call && accepts call) (cells_after meaning any others call) cells)
           (cond (allows any call) (fed m call (length others) false) m)
 
-      unspread : (call : Call) → (accepts call ≡ true → strip-made call (inside any) others ≡ inside any)
+      unspread : (call : Call) → (accepts call ≡ true → strip_made call (inside any) others ≡ inside any)
           → Follows meaning b (after any others call) cells (cond (allows any call) m m)
       unspread call same =
-          other-either (inside any) cells m (agrees, sound) (allows any call) (refusal call (inside any) others) (strip-made call (inside any) others) same
+          other-either (inside any) cells m (agrees, sound) (allows any call) (refusal call (inside any) others) (strip_made call (inside any) others) same
 
       others-follow : (call : Call) → (accepts call ≡ true → works call ≡ true → ⊥) → OthersFollow call
       others-follow Spread unfit =
@@ -107,30 +106,30 @@ module _ {B : Type 0} (meaning : B → Arithmetic) (b : B) where
 
   -- ---- a step
 
-  module _ (w : World B) (m : Model) (s : Step) (sound : Sound m) (agrees : Agrees meaning b (inside w.strip) (own-cells w) m) where
+  module _ (w : World B) (m : Model) (s : Step) (sound : Sound m) (agrees : Agrees meaning b (inside w.strip) (own_cells w) m) where
     abbrev Stepped : Type 0
-    Stepped = Follows meaning b (inside (stepped meaning w s).strip) (own-cells (stepped meaning w s)) (followed w m s)
+    Stepped = Follows meaning b (inside (stepped meaning w s).strip) (own_cells (stepped meaning w s)) (followed w m s)
 
     strip-stepped : after w.strip (handed w s) s.call ≡ inside (stepped meaning w s).strip
-    strip-stepped = sym (inside-either (allows w.strip s.call) w.strip s.call (Strips.strip-after s.call (inside w.strip) (handed w s)))
+    strip-stepped = sym (inside-either (allows w.strip s.call) w.strip s.call (Strips.strip_after s.call (inside w.strip) (handed w s)))
 
-    model-stepped : (own : Bool) → is-own w s ≡ own → cond (allows w.strip s.call) (fed m s.call (length (handed w s)) own) m ≡ followed w m s
+    model-stepped : (own : Bool) → is_own w s ≡ own → cond (allows w.strip s.call) (fed m s.call (length (handed w s)) own) m ≡ followed w m s
     model-stepped own is = ap (λ t. cond (allows w.strip s.call) (fed m s.call (length (handed w s)) t) m) (sym is)
 
-    own-step : (allows w.strip s.call ≡ true → Singles s.call) → is-own w s ≡ true → Stepped
+    own-step : (allows w.strip s.call ≡ true → Singles s.call) → is_own w s ≡ true → Stepped
     own-step singles own =
         let agrees' = subst⁻¹ (λ cells. Agrees meaning b (inside w.strip) cells m) (handed-own meaning w s own) agrees in
         subst₃ (Follows meaning b) strip-stepped (sym (own-after meaning w s own)) (model-stepped true own)
         (own-follows w.strip (handed w s) m sound agrees' s.call singles)
 
-    other_step : Proper w s → is-own w s ≡ false → Stepped
+    other_step : Proper w s → is_own w s ≡ false → Stepped
     other_step proper other =
-        let unfit : accepted w s ≡ true → works s.call ≡ true → ⊥ = λ accepts working. both_ways (is-own w s) other (proper accepts working) in
+        let unfit : accepted w s ≡ true → works s.call ≡ true → ⊥ = λ accepts working. both_ways (is_own w s) other (proper accepts working) in
         subst₃ (Follows meaning b) strip-stepped (sym (other_after meaning w s other)) (model-stepped false other)
-        (others-follow w.strip (own-cells w) m sound agrees (handed w s) s.call unfit)
+        (others-follow w.strip (own_cells w) m sound agrees (handed w s) s.call unfit)
 
-  pub step_follows : (w : World B) (m : Model) (s : Step) → Sound m → Agrees meaning b (inside w.strip) (own-cells w) m
+  pub step_follows : (w : World B) (m : Model) (s : Step) → Sound m → Agrees meaning b (inside w.strip) (own_cells w) m
       → (allows w.strip s.call ≡ true → Singles s.call) → Proper w s
-      → Agrees meaning b (inside (stepped meaning w s).strip) (own-cells (stepped meaning w s)) (followed w m s) × Sound (followed w m s)
+      → Agrees meaning b (inside (stepped meaning w s).strip) (own_cells (stepped meaning w s)) (followed w m s) × Sound (followed w m s)
   step_follows w m s sound agrees singles proper =
-      ⊎_elim (own-step w m s sound agrees singles) (other_step w m s sound agrees proper) (cases_Bool (is-own w s))
+      ⊎_elim (own-step w m s sound agrees singles) (other_step w m s sound agrees proper) (cases_Bool (is_own w s))

@@ -3,7 +3,7 @@ use Rattle.std.proofs.Common.{◌≡◌, refl}
 use Rattle.strip.specs.declared.call.Call.{Call}
 use Rattle.strip.specs.declared.call.Call.TheVariants.{Spread, SetCurve, DropCurve, LayPatch, ChangeReading, MovePatch, LiftPatch, ReadPatch, Finish, Reopen}
 use Rattle.strip.specs.declared.strip.Strip.{Strip}
-use Rattle.runs.specs.State.{in-state, inside, kept}
+use Rattle.runs.specs.State.{in_state, inside, kept}
 use Rattle.runs.specs.declared.state.AnyStrip.{AnyStrip}
 use Rattle.runs.specs.declared.state.AnyStrip.TheVariants.{Open, Finished}
 
@@ -12,7 +12,7 @@ module _ {B : Type 0} where
   inside-kept (Open o) s = refl
   inside-kept (Finished f) s = refl
 
-  pub inside-state : (any : AnyStrip B) (call : Call) (s : Strip B) → inside (in-state any call s) ≡ s
+  pub inside-state : (any : AnyStrip B) (call : Call) (s : Strip B) → inside (in_state any call s) ≡ s
   inside-state any Spread s = inside-kept any s
   inside-state any (SetCurve k y) s = inside-kept any s
   inside-state any (DropCurve k) s = inside-kept any s

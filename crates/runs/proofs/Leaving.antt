@@ -7,22 +7,22 @@ use Rattle.std.proofs.lemmas.Bool.{and_cases, and_parts, both_ways, cases_Bool, 
 use Rattle.strip.specs.Cells.{absent, at, cleared}
 use Rattle.strip.specs.Patch.{reworked, under}
 use Rattle.strip.specs.Refusal.{left}
-use Rattle.strip.specs.Strip.{cells-made, own_power, refusal}
+use Rattle.strip.specs.Strip.{cells_made, own_power, refusal}
 use Rattle.strip.specs.declared.call.Call.{Call}
 use Rattle.strip.specs.declared.call.Call.TheVariants.{Spread, SetCurve, DropCurve, LayPatch, ChangeReading, MovePatch, LiftPatch, ReadPatch, Finish, Reopen}
 use Rattle.strip.specs.declared.patch.Patch.{Patch}
 use Rattle.strip.specs.declared.refusal.Refusal.{Refusal}
 use Rattle.strip.specs.declared.strip.Strip.{Strip}
 use Rattle.runs.specs.Law.{names, sets_curve_of}
-use Rattle.runs.specs.Run.{World, accepted, handed, is-own, is_spread, own-cells, stepped}
-use Rattle.runs.specs.State.{allows, cells-after, inside}
+use Rattle.runs.specs.Run.{World, accepted, handed, is_own, is_spread, own_cells, stepped}
+use Rattle.runs.specs.State.{allows, cells_after, inside}
 use Rattle.runs.specs.declared.run.Step.{Step}
 use Rattle.runs.proofs.Lists.{handed-own, other_after, own-after}
 
 -- ---- what an accepted call makes of cells
 
 module _ {B : Type 0} (meaning : B → Arithmetic) (s : Strip B) (cells : List Patch) where
-  spread-empties : (call : Call) → is_spread call ≡ true → cells-made meaning call s cells ≡ cleared cells
+  spread-empties : (call : Call) → is_spread call ≡ true → cells_made meaning call s cells ≡ cleared cells
   spread-empties Spread spread = refl
   spread-empties (SetCurve k y) spread = absurd (false≢true spread)
   spread-empties (DropCurve k) spread = absurd (false≢true spread)
@@ -39,7 +39,7 @@ module _ {B : Type 0} (meaning : B → Arithmetic) (s : Strip B) (cells : List P
   beside-written i j q other = get_or-set_other cells j i q absent (eqb-false i j other)
 
   others-stay : (call : Call) (i : ℕ) → is_spread call ≡ false → names call i ≡ false → sets_curve_of call (at cells i) ≡ false
-      → at (cells-made meaning call s cells) i ≡ at cells i
+      → at (cells_made meaning call s cells) i ≡ at cells i
   others-stay Spread i spread named set_to = absurd (false≢true (sym spread))
   others-stay (SetCurve k y) i spread named set_to =
       get_or-map (reworked (own_power meaning s) k (record { exponent = y })) cells i absent
@@ -63,29 +63,29 @@ left-unless false o was new = refl
 
 module _ {B : Type 0} (meaning : B → Arithmetic) (w : World B) (s : Step) where
   abbrev made : List Patch
-  made = cells-made meaning s.call (inside w.strip) (handed w s)
+  made = cells_made meaning s.call (inside w.strip) (handed w s)
 
   abbrev spreads : Bool
   spreads = is_spread s.call && accepted w s
 
-  by-accepted : cells-after meaning w.strip (handed w s) s.call ≡ cond (accepted w s) made (handed w s)
+  by-accepted : cells_after meaning w.strip (handed w s) s.call ≡ cond (accepted w s) made (handed w s)
   by-accepted = left-unless (allows w.strip s.call) (refusal s.call (inside w.strip) (handed w s)) (handed w s) made
 
-  pub spread-emptied : spreads ≡ true → own-cells (stepped meaning w s) ≡ cleared (handed w s)
+  pub spread-emptied : spreads ≡ true → own_cells (stepped meaning w s) ≡ cleared (handed w s)
   spread-emptied spread =
       let both = and_parts (is_spread s.call) (accepted w s) spread in
-      let handed-emptied : cells-after meaning w.strip (handed w s) s.call ≡ cleared (handed w s) =
+      let handed-emptied : cells_after meaning w.strip (handed w s) s.call ≡ cleared (handed w s) =
       by-accepted
       ∙ cond-true (accepted w s) made (handed w s) both.1
       ∙ spread-empties meaning (inside w.strip) (handed w s) s.call both.0 in
       ⊎_elim
       (λ own. own-after meaning w s own ∙ handed-emptied)
-      (λ other. other_after meaning w s other ∙ cond-true spreads _ (own-cells w) spread ∙ handed-emptied)
-      (cases_Bool (is-own w s))
+      (λ other. other_after meaning w s other ∙ cond-true spreads _ (own_cells w) spread ∙ handed-emptied)
+      (cases_Bool (is_own w s))
 
   -- the cells that are handed in
   handed-stay : spreads ≡ false → (i : ℕ) → names s.call i ≡ false → sets_curve_of s.call (at (handed w s) i) ≡ false
-      → at (cells-after meaning w.strip (handed w s) s.call) i ≡ at (handed w s) i
+      → at (cells_after meaning w.strip (handed w s) s.call) i ≡ at (handed w s) i
   handed-stay unspread i named set_to =
       let no-spread : accepted w s ≡ true → is_spread s.call ≡ false =
       λ yes. ⊎_elim (λ no. no) (λ no. absurd (both_ways (accepted w s) no yes)) (and_cases (is_spread s.call) (accepted w s) unspread) in
@@ -94,8 +94,8 @@ module _ {B : Type 0} (meaning : B → Arithmetic) (w : World B) (s : Step) wher
       (λ yes. others-stay meaning (inside w.strip) (handed w s) s.call i (no-spread yes) named set_to)
       (λ _. refl)
 
-  pub others-unaltered : spreads ≡ false → (i : ℕ) → names s.call i ≡ false → sets_curve_of s.call (at (own-cells w) i) ≡ false
-      → at (own-cells (stepped meaning w s)) i ≡ at (own-cells w) i
+  pub others-unaltered : spreads ≡ false → (i : ℕ) → names s.call i ≡ false → sets_curve_of s.call (at (own_cells w) i) ≡ false
+      → at (own_cells (stepped meaning w s)) i ≡ at (own_cells w) i
   others-unaltered unspread i named set_to =
       ⊎_elim
       (λ own.
@@ -103,5 +103,5 @@ module _ {B : Type 0} (meaning : B → Arithmetic) (w : World B) (s : Step) wher
       ap (λ cells. at cells i) (own-after meaning w s own)
       ∙ handed-stay unspread i named (ap (λ cells. sets_curve_of s.call (at cells i)) same ∙ set_to)
       ∙ ap (λ cells. at cells i) same)
-      (λ other. ap (λ cells. at cells i) (other_after meaning w s other ∙ cond-false spreads _ (own-cells w) unspread))
-      (cases_Bool (is-own w s))
+      (λ other. ap (λ cells. at cells i) (other_after meaning w s other ∙ cond-false spreads _ (own_cells w) unspread))
+      (cases_Bool (is_own w s))

@@ -11,8 +11,8 @@ use Rattle.strip.specs.declared.call.Call.TheVariants.{Spread, SetCurve, DropCur
 use Rattle.strip.specs.declared.patch.Patch.{Patch}
 use Rattle.strip.specs.declared.refusal.Refusal.{Refusal}
 use Rattle.strip.specs.declared.strip.Strip.{Strip}
-use Rattle.runs.specs.Run.{World, number, handed, own-cells, is-own, is_spread, accepted, stepped}
-use Rattle.runs.specs.State.{inside, allows, cells-after}
+use Rattle.runs.specs.Run.{World, number, handed, own_cells, is_own, is_spread, accepted, stepped}
+use Rattle.runs.specs.State.{inside, allows, cells_after}
 use Rattle.runs.specs.declared.run.Step.{Step}
 use Rattle.runs.specs.declared.state.AnyStrip.{AnyStrip}
 use Rattle.runs.specs.declared.state.AnyStrip.TheVariants.{Open, Finished}
@@ -42,7 +42,7 @@ module _ {B : Type 0} where
   empty-unspread any Reopen = refl
 
   module _ (meaning : B → Arithmetic) where
-    empty-made : (s : Strip B) (call : Call) → Strips.cells-made meaning call s [] ≡ []
+    empty-made : (s : Strip B) (call : Call) → Strips.cells_made meaning call s [] ≡ []
     empty-made s Spread = refl
     empty-made s (SetCurve k y) = refl
     empty-made s (DropCurve k) = refl
@@ -54,7 +54,7 @@ module _ {B : Type 0} where
     empty-made s Finish = refl
     empty-made s Reopen = refl
 
-    empty-stays : (any : AnyStrip B) (call : Call) → cells-after meaning any [] call ≡ []
+    empty-stays : (any : AnyStrip B) (call : Call) → cells_after meaning any [] call ≡ []
     empty-stays any call =
         ap (λ cells. cond (allows any call) (left (refusal call (inside any) []) [] cells) []) (empty-made (inside any) call)
         ∙ ap (λ cells. cond (allows any call) cells []) (left-same (refusal call (inside any) []) [])
@@ -80,23 +80,23 @@ module _ {X : Type 0} (f : List X → List X) (kept : f [] ≡ []) where
 
 module _ {B : Type 0} (meaning : B → Arithmetic) (w : World B) (s : Step) where
   abbrev both-empty : Bool
-  both-empty = eqb (length (handed w s)) 0 && eqb (length (own-cells w)) 0
+  both-empty = eqb (length (handed w s)) 0 && eqb (length (own_cells w)) 0
 
-  empties : both-empty ≡ true → (handed w s ≡ []) × (own-cells w ≡ [])
+  empties : both-empty ≡ true → (handed w s ≡ []) × (own_cells w ≡ [])
   empties both =
-      let parts = and_parts (eqb (length (handed w s)) 0) (eqb (length (own-cells w)) 0) both in
-      (nil_from_length (handed w s) (eqb-true _ 0 parts.0), nil_from_length (own-cells w) (eqb-true _ 0 parts.1))
+      let parts = and_parts (eqb (length (handed w s)) 0) (eqb (length (own_cells w)) 0) both in
+      (nil_from_length (handed w s) (eqb-true _ 0 parts.0), nil_from_length (own_cells w) (eqb-true _ 0 parts.1))
 
   -- the strip's own list goes by its number, or is empty as the one that is handed in
-  by_number : is-own w s ≡ true → (number w s ≡ w.own) ⊎ ((handed w s ≡ []) × (own-cells w ≡ []))
+  by_number : is_own w s ≡ true → (number w s ≡ w.own) ⊎ ((handed w s ≡ []) × (own_cells w ≡ []))
   by_number own =
       ⊎_elim (λ same. inl (eqb-true (number w s) w.own same)) (λ both. inr (empties both)) (or_cases (eqb (number w s) w.own) both-empty own)
 
-  pub handed-own : is-own w s ≡ true → handed w s ≡ own-cells w
+  pub handed-own : is_own w s ≡ true → handed w s ≡ own_cells w
   handed-own own = ⊎_elim (λ same. ap (λ n. get_or w.lists n []) same) (λ nil. nil.0 ∙ sym nil.1) (by_number own)
 
   abbrev altered : List Patch → List Patch
-  altered cells = cells-after meaning w.strip cells s.call
+  altered cells = cells_after meaning w.strip cells s.call
 
   -- an accepted spread
   abbrev spreads : List Patch → Bool
@@ -105,23 +105,23 @@ module _ {B : Type 0} (meaning : B → Arithmetic) (w : World B) (s : Step) wher
   stays : altered [] ≡ []
   stays = empty-stays meaning w.strip s.call
 
-  same_after : number w s ≡ w.own → own-cells (stepped meaning w s) ≡ altered (handed w s)
+  same_after : number w s ≡ w.own → own_cells (stepped meaning w s) ≡ altered (handed w s)
   same_after = read_same altered stays w.lists (number w s) w.own (spreads (handed w s))
 
-  apart-after : (number w s ≡ w.own → ⊥) → own-cells (stepped meaning w s) ≡ cond (spreads (handed w s)) (altered (handed w s)) (own-cells w)
+  apart-after : (number w s ≡ w.own → ⊥) → own_cells (stepped meaning w s) ≡ cond (spreads (handed w s)) (altered (handed w s)) (own_cells w)
   apart-after = read-other altered stays w.lists (number w s) w.own (spreads (handed w s))
 
-  empty-after : handed w s ≡ [] → own-cells w ≡ [] → (number w s ≡ w.own → ⊥) → own-cells (stepped meaning w s) ≡ altered (handed w s)
+  empty-after : handed w s ≡ [] → own_cells w ≡ [] → (number w s ≡ w.own → ⊥) → own_cells (stepped meaning w s) ≡ altered (handed w s)
   empty-after nil own-nil apart =
       apart-after apart
-      ∙ ap (λ (cells : List Patch). cond (spreads cells) (altered (handed w s)) (own-cells w)) nil
-      ∙ ap (λ t. cond t (altered (handed w s)) (own-cells w)) (empty-unspread w.strip s.call)
+      ∙ ap (λ (cells : List Patch). cond (spreads cells) (altered (handed w s)) (own_cells w)) nil
+      ∙ ap (λ t. cond t (altered (handed w s)) (own_cells w)) (empty-unspread w.strip s.call)
       ∙ own-nil ∙ sym stays ∙ ap altered (sym nil)
 
-  pub own-after : is-own w s ≡ true → own-cells (stepped meaning w s) ≡ cells-after meaning w.strip (handed w s) s.call
+  pub own-after : is_own w s ≡ true → own_cells (stepped meaning w s) ≡ cells_after meaning w.strip (handed w s) s.call
   own-after own =
       ⊎_elim same_after (λ nil. ⊎_elim same_after (empty-after nil.0 nil.1) (cases_eq (number w s) w.own)) (by_number own)
 
-  pub other_after : is-own w s ≡ false
-      → own-cells (stepped meaning w s) ≡ cond (is_spread s.call && accepted w s) (cells-after meaning w.strip (handed w s) s.call) (own-cells w)
+  pub other_after : is_own w s ≡ false
+      → own_cells (stepped meaning w s) ≡ cond (is_spread s.call && accepted w s) (cells_after meaning w.strip (handed w s) s.call) (own_cells w)
   other_after other = apart-after (eqb-false (number w s) w.own (or_parts (eqb (number w s) w.own) both-empty other).0)

@@ -10,7 +10,7 @@ use Rattle.strip.specs.Cells.{at}
 use Rattle.strip.specs.Curve.{counted}
 use Rattle.strip.specs.Patch.{laid}
 use Rattle.strip.specs.Refusal.{places}
-use Rattle.strip.specs.Strip.{strip-made, cells-made}
+use Rattle.strip.specs.Strip.{strip_made, cells_made}
 use Rattle.strip.specs.declared.call.Call.{Call}
 use Rattle.strip.specs.declared.call.Call.TheVariants.{Spread, SetCurve, DropCurve, LayPatch, ChangeReading, MovePatch, LiftPatch, ReadPatch, Finish, Reopen}
 use Rattle.strip.specs.declared.patch.Patch.{Patch}
@@ -30,7 +30,7 @@ module _ {B : Type 0} (meaning : B → Arithmetic) (b : B) where
 
   -- an accepted call with these cells leads where the model goes
   abbrev pub Written : Model → Strip B → List Patch → Call → Type 0
-  Written m s cells call = Follows (strip-made call s cells) (cells-made meaning call s cells) (written m call (length cells))
+  Written m s cells call = Follows (strip_made call s cells) (cells_made meaning call s cells) (written m call (length cells))
 
   module _ (m : Model) (sound : Sound m) where
     abbrev p : Float → Float → Float

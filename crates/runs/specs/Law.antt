@@ -17,7 +17,7 @@ use Rattle.strip.specs.declared.refusal.Refusal.{Refusal}
 use Rattle.strip.specs.declared.strip.Strip.{Strip}
 use Rattle.runs.specs.Model.{Entry, Model, opening, curve_in, patch_in, fed}
 use Rattle.runs.specs.Model as Model
-use Rattle.runs.specs.Run.{World, start, handed, own-cells, is-own, is_spread, works, accepted, stepped}
+use Rattle.runs.specs.Run.{World, start, handed, own_cells, is_own, is_spread, works, accepted, stepped}
 use Rattle.runs.specs.State.{inside, allows}
 use Rattle.runs.specs.declared.answer.Answer.{Answer}
 use Rattle.runs.specs.declared.answer.Answer.TheVariants.{NotAllowed, Refused}
@@ -107,27 +107,27 @@ sets_curve_of Reopen q = false
 module _ {B : Type 0} where
   -- the model hears of the calls that are allowed
   abbrev pub followed : World B → Model → Step → Model
-  followed w m s = cond (allows w.strip s.call) (fed m s.call (length (handed w s)) (is-own w s)) m
+  followed w m s = cond (allows w.strip s.call) (fed m s.call (length (handed w s)) (is_own w s)) m
 
 module _ {B : Type 0} (meaning : B → Arithmetic) (b : B) where
   -- What a step from w answers and does, where m is the model before it.
   pub record StepLaw (w : World B) (m : Model) (s : Step) (a : Answer) : Type 0 where
     -- a call that is not allowed is not made
-    pub not-allowed : allows w.strip s.call ≡ false → a ≡ NotAllowed
+    pub not_allowed : allows w.strip s.call ≡ false → a ≡ NotAllowed
     -- a call with the strip's own cells, and one that needs none of them, is answered as the model and the power say
-    pub answered : allows w.strip s.call ≡ true → (is-own w s || not (works s.call)) ≡ true
+    pub answered : allows w.strip s.call ≡ true → (is_own w s || not (works s.call)) ≡ true
         → a ≡ Model.answer (power (meaning b)) m s.call (length (handed w s))
     -- a call with other cells is refused, as count, curves and those cells have it
-    pub refused : allows w.strip s.call ≡ true → (is-own w s || not (works s.call)) ≡ false
+    pub refused : allows w.strip s.call ≡ true → (is_own w s || not (works s.call)) ≡ false
         → (r : Refusal) × (a ≡ Refused r) × (objection s.call (beside m (handed w s)) ≡ Some r)
     -- an accepted spread empties all
-    pub emptied : (is_spread s.call && accepted w s) ≡ true → own-cells (stepped meaning w s) ≡ cleared (handed w s)
+    pub emptied : (is_spread s.call && accepted w s) ≡ true → own_cells (stepped meaning w s) ≡ cleared (handed w s)
     -- no other call alters a patch that it does not name and whose curve it does not set
     pub unaltered : (is_spread s.call && accepted w s) ≡ false
-        → (i : ℕ) → names s.call i ≡ false → sets_curve_of s.call (at (own-cells w) i) ≡ false
-        → at (own-cells (stepped meaning w s)) i ≡ at (own-cells w) i
+        → (i : ℕ) → names s.call i ≡ false → sets_curve_of s.call (at (own_cells w) i) ≡ false
+        → at (own_cells (stepped meaning w s)) i ≡ at (own_cells w) i
     -- and strip and cells go on as the model says
-    pub after : Holds meaning b (inside (stepped meaning w s).strip) (own-cells (stepped meaning w s)) (followed w m s)
+    pub after : Holds meaning b (inside (stepped meaning w s).strip) (own_cells (stepped meaning w s)) (followed w m s)
 
   -- every step, with its answer
   abbrev pub StepLaws : World B → Model → List Step → List Answer → Type 0
@@ -138,11 +138,11 @@ module _ {B : Type 0} (meaning : B → Arithmetic) (b : B) where
 
 module _ {B : Type 0} (meaning : B → Arithmetic) where
   -- the model after a run
-  abbrev pub model-after : World B → Model → List Step → Model
-  model-after w m [] = m
-  model-after w m (s ∷ steps) = model-after (stepped meaning w s) (followed w m s) steps
+  abbrev pub model_after : World B → Model → List Step → Model
+  model_after w m [] = m
+  model_after w m (s ∷ steps) = model_after (stepped meaning w s) (followed w m s) steps
 
   -- A run from the opening on a backend b, on lists of cells: where it ends, and what each call answered.
   pub record Law (b : B) (lists : List (List Patch)) (steps : List Step) (end : World B) (got : List Answer) : Type 0 where
-    pub ends : Holds meaning b (inside end.strip) (own-cells end) (model-after (start b lists) opening steps)
+    pub ends : Holds meaning b (inside end.strip) (own_cells end) (model_after (start b lists) opening steps)
     pub each : StepLaws meaning b (start b lists) opening steps got

@@ -95,20 +95,20 @@ of_entry (Some e) f = f e
 
 module _ (p : Float → Float → Float) (m : Model) where
   -- what a reading shows under curve k
-  abbrev pub shown-under : ℕ → Float → Float
-  shown-under k x = shown p (counted (curve_in m k)) x
+  abbrev pub shown_under : ℕ → Float → Float
+  shown_under k x = shown p (counted (curve_in m k)) x
 
   -- what an accepted call answers
   abbrev pub value : Call → ℕ → Answer
   value Spread n = Count n
   value (SetCurve k y) n = Count (users_in m k)
   value (DropCurve k) n = Value (counted (curve_in m k)).exponent
-  value (LayPatch i x k) n = Value (shown-under k x)
-  value (ChangeReading i x) n = of_entry (patch_in m i) (λ e. Value (shown-under e.curve x))
-  value (MovePatch i k) n = of_entry (patch_in m i) (λ e. Value (shown-under k e.reading))
+  value (LayPatch i x k) n = Value (shown_under k x)
+  value (ChangeReading i x) n = of_entry (patch_in m i) (λ e. Value (shown_under e.curve x))
+  value (MovePatch i k) n = of_entry (patch_in m i) (λ e. Value (shown_under k e.reading))
   value (LiftPatch i) n = of_entry (patch_in m i) (λ e. Value e.reading)
   value (ReadPatch i) n =
-      of_entry (patch_in m i) (λ e. Patch (record { reading = e.reading; curve = e.curve; shown = shown-under e.curve e.reading }))
+      of_entry (patch_in m i) (λ e. Patch (record { reading = e.reading; curve = e.curve; shown = shown_under e.curve e.reading }))
   value Finish n = Done
   value Reopen n = Done
 

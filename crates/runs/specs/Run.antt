@@ -5,7 +5,7 @@ use Rattle.strip.specs.Strip.{opened, refusal}
 use Rattle.strip.specs.declared.call.Call.{Call}
 use Rattle.strip.specs.declared.call.Call.TheVariants.{Spread, SetCurve, DropCurve, LayPatch, ChangeReading, MovePatch, LiftPatch, ReadPatch, Finish, Reopen}
 use Rattle.strip.specs.declared.patch.Patch.{Patch}
-use Rattle.runs.specs.State.{inside, allows, strip-after, cells-after, answer}
+use Rattle.runs.specs.State.{inside, allows, strip_after, cells_after, answer}
 use Rattle.runs.specs.declared.answer.Answer.{Answer}
 use Rattle.runs.specs.declared.run.Handed.TheVariants.{Own, Numbered}
 use Rattle.runs.specs.declared.run.Step.{Step}
@@ -58,12 +58,12 @@ module _ {B : Type 0} where
   abbrev pub handed : World B → Step → List Patch
   handed w s = slice_index_or w.lists (number w s) []
 
-  abbrev pub own-cells : World B → List Patch
-  own-cells w = slice_index_or w.lists w.own []
+  abbrev pub own_cells : World B → List Patch
+  own_cells w = slice_index_or w.lists w.own []
 
   -- whether a step hands in the strip's own list; there is but one empty list
-  abbrev pub is-own : World B → Step → Bool
-  is-own w s = number w s == w.own || (length (handed w s) == 0 && length (own-cells w) == 0)
+  abbrev pub is_own : World B → Step → Bool
+  is_own w s = number w s == w.own || (length (handed w s) == 0 && length (own_cells w) == 0)
 
   -- whether a step is allowed and no place objects
   abbrev pub accepted : World B → Step → Bool
@@ -71,20 +71,20 @@ module _ {B : Type 0} where
 
   -- an accepted call that works on cells is handed the strip's own
   abbrev pub Proper : World B → Step → Type 0
-  Proper w s = accepted w s ≡ true → works s.call ≡ true → is-own w s ≡ true
+  Proper w s = accepted w s ≡ true → works s.call ≡ true → is_own w s ≡ true
 
 module _ {B : Type 0} (meaning : B → Arithmetic) where
   -- the list that was handed in is written back; an accepted spread makes it the strip's own
   abbrev pub stepped : World B → Step → World B
   stepped w s =
       record {
-        strip = strip-after w.strip (handed w s) s.call;
-        lists = slice_set w.lists (number w s) (cells-after meaning w.strip (handed w s) s.call);
+        strip = strip_after w.strip (handed w s) s.call;
+        lists = slice_set w.lists (number w s) (cells_after meaning w.strip (handed w s) s.call);
         own = cond (is_spread s.call && accepted w s) (number w s) w.own;
       }
 
-  abbrev pub answer-of : World B → Step → Answer
-  answer-of w s = answer meaning w.strip (handed w s) s.call
+  abbrev pub answer_of : World B → Step → Answer
+  answer_of w s = answer meaning w.strip (handed w s) s.call
 
   abbrev pub run : World B → List Step → World B
   run w [] = w
@@ -92,7 +92,7 @@ module _ {B : Type 0} (meaning : B → Arithmetic) where
 
   abbrev pub answers : World B → List Step → List Answer
   answers w [] = []
-  answers w (s ∷ steps) = answer-of w s ∷ answers (stepped w s) steps
+  answers w (s ∷ steps) = answer_of w s ∷ answers (stepped w s) steps
 
   abbrev pub ProperRun : World B → List Step → Type 0
   ProperRun w [] = Unit {0}

@@ -7,7 +7,7 @@ use Rattle.strip.specs.Cells.{at, users}
 use Rattle.strip.specs.Curve.{counted}
 use Rattle.strip.specs.Patch.{view}
 use Rattle.strip.specs.Strip as Strips
-use Rattle.strip.specs.Strip.{refusal, curve-of, patch-laid}
+use Rattle.strip.specs.Strip.{refusal, curve_of, patch_laid}
 use Rattle.strip.specs.declared.call.Call.{Call}
 use Rattle.strip.specs.declared.call.Call.TheVariants.{Spread, SetCurve, DropCurve, LayPatch, ChangeReading, MovePatch, LiftPatch, ReadPatch, Finish, Reopen}
 use Rattle.strip.specs.declared.patch.Patch as Cell
@@ -73,34 +73,34 @@ module _ {B : Type 0} where
   kept (Finished f) s = Finished (record { strip = s })
 
   -- s in the state that the call leads to
-  abbrev pub in-state : AnyStrip B → Call → Strip B → AnyStrip B
-  in-state any Spread s = kept any s
-  in-state any (SetCurve k y) s = kept any s
-  in-state any (DropCurve k) s = kept any s
-  in-state any (LayPatch i x k) s = kept any s
-  in-state any (ChangeReading i x) s = kept any s
-  in-state any (MovePatch i k) s = kept any s
-  in-state any (LiftPatch i) s = kept any s
-  in-state any (ReadPatch i) s = kept any s
-  in-state any Finish s = Finished (record { strip = s })
-  in-state any Reopen s = Open (record { strip = s })
+  abbrev pub in_state : AnyStrip B → Call → Strip B → AnyStrip B
+  in_state any Spread s = kept any s
+  in_state any (SetCurve k y) s = kept any s
+  in_state any (DropCurve k) s = kept any s
+  in_state any (LayPatch i x k) s = kept any s
+  in_state any (ChangeReading i x) s = kept any s
+  in_state any (MovePatch i k) s = kept any s
+  in_state any (LiftPatch i) s = kept any s
+  in_state any (ReadPatch i) s = kept any s
+  in_state any Finish s = Finished (record { strip = s })
+  in_state any Reopen s = Open (record { strip = s })
 
   -- a call that is not allowed is not made
-  abbrev pub strip-after : AnyStrip B → List Cell.Patch → Call → AnyStrip B
-  strip-after any cells call = cond (allows any call) (in-state any call (Strips.strip-after call (inside any) cells)) any
+  abbrev pub strip_after : AnyStrip B → List Cell.Patch → Call → AnyStrip B
+  strip_after any cells call = cond (allows any call) (in_state any call (Strips.strip_after call (inside any) cells)) any
 
 module _ {B : Type 0} (meaning : B → Arithmetic) where
-  abbrev pub cells-after : AnyStrip B → List Cell.Patch → Call → List Cell.Patch
-  cells-after any cells call = cond (allows any call) (Strips.cells-after meaning call (inside any) cells) cells
+  abbrev pub cells_after : AnyStrip B → List Cell.Patch → Call → List Cell.Patch
+  cells_after any cells call = cond (allows any call) (Strips.cells_after meaning call (inside any) cells) cells
 
   -- what an accepted call answers
   abbrev pub value : Strip B → List Cell.Patch → Call → Answer
   value s cells Spread = Count (length cells)
   value s cells (SetCurve k y) = Count (users k cells)
-  value s cells (DropCurve k) = Value (counted (curve-of s k)).exponent
-  value s cells (LayPatch i x k) = Value (patch-laid meaning s k x).shown
-  value s cells (ChangeReading i x) = Value (patch-laid meaning s (at cells i).curve x).shown
-  value s cells (MovePatch i k) = Value (patch-laid meaning s k (at cells i).reading).shown
+  value s cells (DropCurve k) = Value (counted (curve_of s k)).exponent
+  value s cells (LayPatch i x k) = Value (patch_laid meaning s k x).shown
+  value s cells (ChangeReading i x) = Value (patch_laid meaning s (at cells i).curve x).shown
+  value s cells (MovePatch i k) = Value (patch_laid meaning s k (at cells i).reading).shown
   value s cells (LiftPatch i) = Value (at cells i).reading
   value s cells (ReadPatch i) = Patch (view (at cells i))
   value s cells Finish = Done

@@ -53,7 +53,7 @@ pub fn step_once<B: PowfBackend>(
     step: Step,
 ) -> Stepped<B>
     ensures world { Run.world result.strip (map vec_items lists.new) result.own ≡ Run.stepped B.PowfBackend.meaning (Run.world strip (map vec_items lists.old) own) step }
-    ensures answer { result.answer ≡ Run.answer-of B.PowfBackend.meaning (Run.world strip (map vec_items lists.old) own) step }
+    ensures answer { result.answer ≡ Run.answer_of B.PowfBackend.meaning (Run.world strip (map vec_items lists.old) own) step }
     ensures singles { State.allows strip step.call ≡ true → State.Singles step.call }
 {
     let number = match step.list {

@@ -32,9 +32,9 @@ fn open_still<B: PowfBackend>(answer: Answer, strip: OpenStrip<B>) -> Called<B>
 }
 
 fn call_open<B: PowfBackend>(whole: OpenStrip<B>, cells: &mut [Patch], call: Call) -> Called<B>
-    ensures strip { result.strip ≡ State.strip-after (AnyStrip.Open whole) cells.old call }
+    ensures strip { result.strip ≡ State.strip_after (AnyStrip.Open whole) cells.old call }
     ensures answer { result.answer ≡ State.answer B.PowfBackend.meaning (AnyStrip.Open whole) cells.old call }
-    ensures cells { cells.new ≡ State.cells-after B.PowfBackend.meaning (AnyStrip.Open whole) cells.old call }
+    ensures cells { cells.new ≡ State.cells_after B.PowfBackend.meaning (AnyStrip.Open whole) cells.old call }
     ensures singles { State.Singles call }
 {
     let mut strip = whole;
@@ -72,7 +72,7 @@ fn call_open<B: PowfBackend>(whole: OpenStrip<B>, cells: &mut [Patch], call: Cal
 }
 
 fn call_finished<B: PowfBackend>(strip: FinishedStrip<B>, cells: &[Patch], call: Call) -> Called<B>
-    ensures strip { result.strip ≡ State.strip-after (AnyStrip.Finished strip) cells.now call }
+    ensures strip { result.strip ≡ State.strip_after (AnyStrip.Finished strip) cells.now call }
     ensures answer { result.answer ≡ State.answer B.PowfBackend.meaning (AnyStrip.Finished strip) cells.now call }
     ensures singles { State.allowed_finished call ≡ true → State.Singles call }
 {
@@ -97,9 +97,9 @@ fn call_finished<B: PowfBackend>(strip: FinishedStrip<B>, cells: &[Patch], call:
 
 // Makes a call, if the strip's state allows it.
 pub fn call_any<B: PowfBackend>(strip: AnyStrip<B>, cells: &mut [Patch], call: Call) -> Called<B>
-    ensures strip { result.strip ≡ State.strip-after strip cells.old call }
+    ensures strip { result.strip ≡ State.strip_after strip cells.old call }
     ensures answer { result.answer ≡ State.answer B.PowfBackend.meaning strip cells.old call }
-    ensures cells { cells.new ≡ State.cells-after B.PowfBackend.meaning strip cells.old call }
+    ensures cells { cells.new ≡ State.cells_after B.PowfBackend.meaning strip cells.old call }
     ensures singles { State.allows strip call ≡ true → State.Singles call }
 {
     match strip {

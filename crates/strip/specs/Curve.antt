@@ -1,5 +1,5 @@
 -- Curves: which is set, what a reading shows under one. Assumes nothing.
-use Rattle.std.specs.Prelude.{ℕ, cond, List, set, replicate, Some, None, Option, from_bits, nat_lt, slice_index_or, slice_set, Float}
+use Rattle.std.specs.Prelude.{ℕ, cond, List, replicate, Some, None, Option, from_bits, nat_lt, slice_index_or, slice_set, Float}
 use Rattle.std.specs.Float.{binary32}
 use Rattle.strip.specs.declared.curve.Curve.{Curve}
 use Rattle.strip.specs.declared.curve.Curves.{Curves}

@@ -41,20 +41,20 @@ module _ (o : Observed) where
   abbrev pub cells : Place
   cells = (not (o.handed == o.count), Cells)
 
-  abbrev pub patch-number : ℕ → Place
-  patch-number i = (not (nat_lt i o.count), PatchNumber)
+  abbrev pub patch_number : ℕ → Place
+  patch_number i = (not (nat_lt i o.count), PatchNumber)
 
-  abbrev pub curve-unset : ℕ → Place
-  curve-unset k = (not (o.is_set k), CurveUnset)
+  abbrev pub curve_unset : ℕ → Place
+  curve_unset k = (not (o.is_set k), CurveUnset)
 
-  abbrev pub patch-filled : ℕ → Place
-  patch-filled i = (o.is_filled i, PatchFilled)
+  abbrev pub patch_filled : ℕ → Place
+  patch_filled i = (o.is_filled i, PatchFilled)
 
-  abbrev pub patch-empty : ℕ → Place
-  patch-empty i = (not (o.is_filled i), PatchEmpty)
+  abbrev pub patch_empty : ℕ → Place
+  patch_empty i = (not (o.is_filled i), PatchEmpty)
 
-  abbrev pub curve-in-use : ℕ → Place
-  curve-in-use k = (o.in_use k, CurveInUse)
+  abbrev pub curve_in_use : ℕ → Place
+  curve_in_use k = (o.in_use k, CurveInUse)
 
 abbrev pub curve_number : ℕ → Place
 curve_number k = (nat_lt 15 k, CurveNumber)
@@ -67,12 +67,12 @@ exponent y = (is_nan y, Exponent)
 abbrev pub places : Call → Observed → List Place
 places Spread o = spreading o ∷ []
 places (SetCurve k y) o = cells o ∷ curve_number k ∷ exponent y ∷ []
-places (DropCurve k) o = cells o ∷ curve_number k ∷ curve-unset o k ∷ curve-in-use o k ∷ []
-places (LayPatch i x k) o = cells o ∷ patch-number o i ∷ curve_number k ∷ curve-unset o k ∷ patch-filled o i ∷ []
-places (ChangeReading i x) o = cells o ∷ patch-number o i ∷ patch-empty o i ∷ []
-places (MovePatch i k) o = cells o ∷ patch-number o i ∷ curve_number k ∷ curve-unset o k ∷ patch-empty o i ∷ []
-places (LiftPatch i) o = cells o ∷ patch-number o i ∷ patch-empty o i ∷ []
-places (ReadPatch i) o = cells o ∷ patch-number o i ∷ patch-empty o i ∷ []
+places (DropCurve k) o = cells o ∷ curve_number k ∷ curve_unset o k ∷ curve_in_use o k ∷ []
+places (LayPatch i x k) o = cells o ∷ patch_number o i ∷ curve_number k ∷ curve_unset o k ∷ patch_filled o i ∷ []
+places (ChangeReading i x) o = cells o ∷ patch_number o i ∷ patch_empty o i ∷ []
+places (MovePatch i k) o = cells o ∷ patch_number o i ∷ curve_number k ∷ curve_unset o k ∷ patch_empty o i ∷ []
+places (LiftPatch i) o = cells o ∷ patch_number o i ∷ patch_empty o i ∷ []
+places (ReadPatch i) o = cells o ∷ patch_number o i ∷ patch_empty o i ∷ []
 places Finish o = []
 places Reopen o = []
 

@@ -1,5 +1,5 @@
 -- What each call makes of the strip and of the cells that it is handed. Assumes nothing.
-use Rattle.std.specs.Prelude.{ℕ, List, length, set, is_some, Some, None, Option, nat_lt, slice_set, Float}
+use Rattle.std.specs.Prelude.{ℕ, List, length, is_some, Some, None, Option, nat_lt, slice_set, Float}
 use Rattle.power.specs.Backend.{Arithmetic}
 use Rattle.power.specs.Powf.{power}
 use Rattle.strip.specs.Curve.{in_table, counted, unset, with_curve}
@@ -19,15 +19,15 @@ module _ {B : Type 0} where
   abbrev pub opened : B → Strip B
   opened b = record { backend = b; curves = unset; count = 0 }
 
-  abbrev pub with-count : Strip B → ℕ → Strip B
-  with-count s n = record { backend = s.backend; curves = s.curves; count = n }
+  abbrev pub with_count : Strip B → ℕ → Strip B
+  with_count s n = record { backend = s.backend; curves = s.curves; count = n }
 
-  abbrev pub with-curves : Strip B → Curves → Strip B
-  with-curves s cs = record { backend = s.backend; curves = cs; count = s.count }
+  abbrev pub with_curves : Strip B → Curves → Strip B
+  with_curves s cs = record { backend = s.backend; curves = cs; count = s.count }
 
   -- curve k, if it is set
-  abbrev pub curve-of : Strip B → ℕ → Option Curve
-  curve-of s k = in_table s.curves.table k
+  abbrev pub curve_of : Strip B → ℕ → Option Curve
+  curve_of s k = in_table s.curves.table k
 
   -- the places ask the strip and the cells that are handed in
   abbrev pub observed : Strip B → List Patch → Observed
@@ -35,7 +35,7 @@ module _ {B : Type 0} where
       record {
         handed = length cells;
         count = s.count;
-        is_set = λ k. is_some (curve-of s k);
+        is_set = λ k. is_some (curve_of s k);
         is_filled = λ i. (at cells i).filled;
         in_use = λ k. nat_lt 0 (users k cells);
       }
@@ -45,20 +45,20 @@ module _ {B : Type 0} where
 
   -- ---- what an accepted call makes of the strip: only the count and one curve are ever written
 
-  abbrev pub strip-made : Call → Strip B → List Patch → Strip B
-  strip-made Spread s cells = with-count s (length cells)
-  strip-made (SetCurve k y) s cells = with-curves s (with_curve s.curves k (Some (record { exponent = y })))
-  strip-made (DropCurve k) s cells = with-curves s (with_curve s.curves k None)
-  strip-made (LayPatch i x k) s cells = s
-  strip-made (ChangeReading i x) s cells = s
-  strip-made (MovePatch i k) s cells = s
-  strip-made (LiftPatch i) s cells = s
-  strip-made (ReadPatch i) s cells = s
-  strip-made Finish s cells = s
-  strip-made Reopen s cells = s
+  abbrev pub strip_made : Call → Strip B → List Patch → Strip B
+  strip_made Spread s cells = with_count s (length cells)
+  strip_made (SetCurve k y) s cells = with_curves s (with_curve s.curves k (Some (record { exponent = y })))
+  strip_made (DropCurve k) s cells = with_curves s (with_curve s.curves k None)
+  strip_made (LayPatch i x k) s cells = s
+  strip_made (ChangeReading i x) s cells = s
+  strip_made (MovePatch i k) s cells = s
+  strip_made (LiftPatch i) s cells = s
+  strip_made (ReadPatch i) s cells = s
+  strip_made Finish s cells = s
+  strip_made Reopen s cells = s
 
-  abbrev pub strip-after : Call → Strip B → List Patch → Strip B
-  strip-after call s cells = left (refusal call s cells) s (strip-made call s cells)
+  abbrev pub strip_after : Call → Strip B → List Patch → Strip B
+  strip_after call s cells = left (refusal call s cells) s (strip_made call s cells)
 
 -- ---- what an accepted call makes of the cells
 
@@ -68,20 +68,20 @@ module _ {B : Type 0} (meaning : B → Arithmetic) where
   own_power s = power (meaning s.backend)
 
   -- the patch that a reading makes under curve k
-  abbrev pub patch-laid : Strip B → (k : ℕ) → (reading : Float) → Patch
-  patch-laid s k x = laid (own_power s) k (counted (curve-of s k)) x
+  abbrev pub patch_laid : Strip B → (k : ℕ) → (reading : Float) → Patch
+  patch_laid s k x = laid (own_power s) k (counted (curve_of s k)) x
 
-  abbrev pub cells-made : Call → Strip B → List Patch → List Patch
-  cells-made Spread s cells = cleared cells
-  cells-made (SetCurve k y) s cells = all_reworked (own_power s) k (record { exponent = y }) cells
-  cells-made (DropCurve k) s cells = cells
-  cells-made (LayPatch i x k) s cells = slice_set cells i (patch-laid s k x)
-  cells-made (ChangeReading i x) s cells = slice_set cells i (patch-laid s (at cells i).curve x)
-  cells-made (MovePatch i k) s cells = slice_set cells i (patch-laid s k (at cells i).reading)
-  cells-made (LiftPatch i) s cells = slice_set cells i empty
-  cells-made (ReadPatch i) s cells = cells
-  cells-made Finish s cells = cells
-  cells-made Reopen s cells = cells
+  abbrev pub cells_made : Call → Strip B → List Patch → List Patch
+  cells_made Spread s cells = cleared cells
+  cells_made (SetCurve k y) s cells = all_reworked (own_power s) k (record { exponent = y }) cells
+  cells_made (DropCurve k) s cells = cells
+  cells_made (LayPatch i x k) s cells = slice_set cells i (patch_laid s k x)
+  cells_made (ChangeReading i x) s cells = slice_set cells i (patch_laid s (at cells i).curve x)
+  cells_made (MovePatch i k) s cells = slice_set cells i (patch_laid s k (at cells i).reading)
+  cells_made (LiftPatch i) s cells = slice_set cells i empty
+  cells_made (ReadPatch i) s cells = cells
+  cells_made Finish s cells = cells
+  cells_made Reopen s cells = cells
 
-  abbrev pub cells-after : Call → Strip B → List Patch → List Patch
-  cells-after call s cells = left (refusal call s cells) cells (cells-made call s cells)
+  abbrev pub cells_after : Call → Strip B → List Patch → List Patch
+  cells_after call s cells = left (refusal call s cells) cells (cells_made call s cells)

@@ -58,7 +58,7 @@ impl<B: PowfBackend> Strip<B> {
     }
 
     fn check_patch(&self, patch: usize) -> Result<(), Refusal>
-        ensures { result ≡ Table.asked (Table.patch-number (Calls.observed self.now []) patch) }
+        ensures { result ≡ Table.asked (Table.patch_number (Calls.observed self.now []) patch) }
     {
         if patch < self.count {
             Ok(())
@@ -69,7 +69,7 @@ impl<B: PowfBackend> Strip<B> {
 
     // A curve that has to be set.
     fn curve_set(&self, curve: u32) -> Result<Curve, Refusal>
-        ensures { result ≡ Table.answered (Table.first (Table.curve-unset (Calls.observed self.now []) curve ∷ [])) (Curving.counted (Calls.curve-of self.now curve)) }
+        ensures { result ≡ Table.answered (Table.first (Table.curve_unset (Calls.observed self.now []) curve ∷ [])) (Curving.counted (Calls.curve_of self.now curve)) }
     {
         match self.curves.get(curve) {
             Some(set) => Ok(set),
@@ -106,8 +106,8 @@ impl<B: PowfBackend> OpenStrip<B> {
     // Empties every cell, and makes the list the strip's own; answers the count.
     pub fn spread(&mut self, cells: &mut [Patch]) -> Result<usize, Refusal>
         ensures answer { result ≡ Table.answered (Calls.refusal Spread self.old.strip cells.old) (length cells.old) }
-        ensures strip { self.new.strip ≡ Calls.strip-after Spread self.old.strip cells.old }
-        ensures cells { cells.new ≡ Calls.cells-after B.PowfBackend.meaning Spread self.old.strip cells.old }
+        ensures strip { self.new.strip ≡ Calls.strip_after Spread self.old.strip cells.old }
+        ensures cells { cells.new ≡ Calls.cells_after B.PowfBackend.meaning Spread self.old.strip cells.old }
     {
         if cells.is_empty() || cells.len() > MAX_CELLS {
             return Err(Refusal::Spreading);
@@ -125,8 +125,8 @@ impl<B: PowfBackend> OpenStrip<B> {
         exponent: f32,
     ) -> Result<usize, Refusal>
         ensures answer { result ≡ Table.answered (Calls.refusal (SetCurve curve exponent) self.old.strip cells.old) (Cells.users curve cells.old) }
-        ensures strip { self.new.strip ≡ Calls.strip-after (SetCurve curve exponent) self.old.strip cells.old }
-        ensures cells { cells.new ≡ Calls.cells-after B.PowfBackend.meaning (SetCurve curve exponent) self.old.strip cells.old }
+        ensures strip { self.new.strip ≡ Calls.strip_after (SetCurve curve exponent) self.old.strip cells.old }
+        ensures cells { cells.new ≡ Calls.cells_after B.PowfBackend.meaning (SetCurve curve exponent) self.old.strip cells.old }
     {
         self.strip.check_cells(cells)?;
         check_curve(curve)?;
@@ -140,8 +140,8 @@ impl<B: PowfBackend> OpenStrip<B> {
 
     // Unsets a curve that no filled patch is under; answers its exponent.
     pub fn drop_curve(&mut self, cells: &[Patch], curve: u32) -> Result<f32, Refusal>
-        ensures answer { result ≡ Table.answered (Calls.refusal (DropCurve curve) self.old.strip cells.now) (Curving.counted (Calls.curve-of self.old.strip curve)).exponent }
-        ensures strip { self.new.strip ≡ Calls.strip-after (DropCurve curve) self.old.strip cells.now }
+        ensures answer { result ≡ Table.answered (Calls.refusal (DropCurve curve) self.old.strip cells.now) (Curving.counted (Calls.curve_of self.old.strip curve)).exponent }
+        ensures strip { self.new.strip ≡ Calls.strip_after (DropCurve curve) self.old.strip cells.now }
     {
         self.strip.check_cells(cells)?;
         check_curve(curve)?;
@@ -161,8 +161,8 @@ impl<B: PowfBackend> OpenStrip<B> {
         reading: f32,
         curve: u32,
     ) -> Result<f32, Refusal>
-        ensures answer { result ≡ Table.answered (Calls.refusal (LayPatch patch reading curve) self.now.strip cells.old) (Calls.patch-laid B.PowfBackend.meaning self.now.strip curve reading).shown }
-        ensures cells { cells.new ≡ Calls.cells-after B.PowfBackend.meaning (LayPatch patch reading curve) self.now.strip cells.old }
+        ensures answer { result ≡ Table.answered (Calls.refusal (LayPatch patch reading curve) self.now.strip cells.old) (Calls.patch_laid B.PowfBackend.meaning self.now.strip curve reading).shown }
+        ensures cells { cells.new ≡ Calls.cells_after B.PowfBackend.meaning (LayPatch patch reading curve) self.now.strip cells.old }
     {
         self.strip.check_cells(cells)?;
         self.strip.check_patch(patch)?;
@@ -183,8 +183,8 @@ impl<B: PowfBackend> OpenStrip<B> {
         patch: usize,
         reading: f32,
     ) -> Result<f32, Refusal>
-        ensures answer { result ≡ Table.answered (Calls.refusal (ChangeReading patch reading) self.now.strip cells.old) (Calls.patch-laid B.PowfBackend.meaning self.now.strip (Cells.at cells.old patch).curve reading).shown }
-        ensures cells { cells.new ≡ Calls.cells-after B.PowfBackend.meaning (ChangeReading patch reading) self.now.strip cells.old }
+        ensures answer { result ≡ Table.answered (Calls.refusal (ChangeReading patch reading) self.now.strip cells.old) (Calls.patch_laid B.PowfBackend.meaning self.now.strip (Cells.at cells.old patch).curve reading).shown }
+        ensures cells { cells.new ≡ Calls.cells_after B.PowfBackend.meaning (ChangeReading patch reading) self.now.strip cells.old }
     {
         let View { curve, .. } = self.strip.read_patch(cells, patch)?;
         let set = self.strip.curves.counted(curve);
@@ -195,8 +195,8 @@ impl<B: PowfBackend> OpenStrip<B> {
 
     // Puts a filled cell under another curve; answers what it shows.
     pub fn move_patch(&self, cells: &mut [Patch], patch: usize, curve: u32) -> Result<f32, Refusal>
-        ensures answer { result ≡ Table.answered (Calls.refusal (MovePatch patch curve) self.now.strip cells.old) (Calls.patch-laid B.PowfBackend.meaning self.now.strip curve (Cells.at cells.old patch).reading).shown }
-        ensures cells { cells.new ≡ Calls.cells-after B.PowfBackend.meaning (MovePatch patch curve) self.now.strip cells.old }
+        ensures answer { result ≡ Table.answered (Calls.refusal (MovePatch patch curve) self.now.strip cells.old) (Calls.patch_laid B.PowfBackend.meaning self.now.strip curve (Cells.at cells.old patch).reading).shown }
+        ensures cells { cells.new ≡ Calls.cells_after B.PowfBackend.meaning (MovePatch patch curve) self.now.strip cells.old }
     {
         self.strip.check_cells(cells)?;
         self.strip.check_patch(patch)?;
@@ -211,7 +211,7 @@ impl<B: PowfBackend> OpenStrip<B> {
     // Empties a filled cell; answers its reading.
     pub fn lift_patch(&self, cells: &mut [Patch], patch: usize) -> Result<f32, Refusal>
         ensures answer { result ≡ Table.answered (Calls.refusal (LiftPatch patch) self.now.strip cells.old) (Cells.at cells.old patch).reading }
-        ensures cells { cells.new ≡ Calls.cells-after B.PowfBackend.meaning (LiftPatch patch) self.now.strip cells.old }
+        ensures cells { cells.new ≡ Calls.cells_after B.PowfBackend.meaning (LiftPatch patch) self.now.strip cells.old }
     {
         let View { reading, .. } = self.strip.read_patch(cells, patch)?;
         cells[patch] = Patch::empty();

@@ -4,13 +4,12 @@ use lib.ListN.{length-map}
 use Rattle.power.specs.Backend.{Arithmetic}
 use Rattle.runs.proofs.Inside.{inside-state}
 use Rattle.runs.specs.Run.{is_spread, works}
-use Rattle.runs.specs.State.{allows, cells-after, in-state, inside, kept, strip-after}
+use Rattle.runs.specs.State.{allows, cells_after, in_state, inside, strip_after}
 use Rattle.runs.specs.declared.state.AnyStrip.{AnyStrip}
-use Rattle.runs.specs.declared.state.AnyStrip.TheVariants.{Open, Finished}
 use Rattle.std.proofs.lemmas.List.{length-set}
 use Rattle.std.proofs.lemmas.Bool.{cond-true, false≢true, not_from_false}
 use Rattle.strip.specs.Refusal.{Observed, left, objection}
-use Rattle.strip.specs.Strip.{cells-made, refusal, strip-made}
+use Rattle.strip.specs.Strip.{cells_made, refusal, strip_made}
 use Rattle.strip.specs.declared.call.Call.{Call}
 use Rattle.strip.specs.declared.call.Call.TheVariants.{Spread, SetCurve, DropCurve, LayPatch, ChangeReading, MovePatch, LiftPatch, ReadPatch, Finish, Reopen}
 use Rattle.strip.specs.declared.patch.Patch.{Patch}
@@ -26,7 +25,7 @@ length-either true None was new same = same
 length-either false o was new same = refl
 
 module _ {B : Type 0} (meaning : B → Arithmetic) where
-  length-made : (call : Call) (s : Strip B) (cells : List Patch) → length (cells-made meaning call s cells) ≡ length cells
+  length-made : (call : Call) (s : Strip B) (cells : List Patch) → length (cells_made meaning call s cells) ≡ length cells
   length-made Spread s cells = length-map cells _
   length-made (SetCurve k y) s cells = length-map cells _
   length-made (DropCurve k) s cells = refl
@@ -38,9 +37,9 @@ module _ {B : Type 0} (meaning : B → Arithmetic) where
   length-made Finish s cells = refl
   length-made Reopen s cells = refl
 
-  pub length-after : (any : AnyStrip B) (cells : List Patch) (call : Call) → length (cells-after meaning any cells call) ≡ length cells
+  pub length-after : (any : AnyStrip B) (cells : List Patch) (call : Call) → length (cells_after meaning any cells call) ≡ length cells
   length-after any cells call =
-      length-either (allows any call) (refusal call (inside any) cells) cells (cells-made meaning call (inside any) cells) (length-made call (inside any) cells)
+      length-either (allows any call) (refusal call (inside any) cells) cells (cells_made meaning call (inside any) cells) (length-made call (inside any) cells)
 
 -- a list that is written back as long as it was
 pub length-written : {X : Type 0} (lists : List (List X)) (n k : ℕ) (new : List X) → length new ≡ length (get_or lists n [])
@@ -54,7 +53,7 @@ length-written (l ∷ lists) (suc n) (suc k) new same = length-written lists n k
 -- ---- the strip's count
 
 module _ {B : Type 0} where
-  count-made : (call : Call) (s : Strip B) (cells : List Patch) → (strip-made call s cells).count ≡ cond (is_spread call) (length cells) s.count
+  count-made : (call : Call) (s : Strip B) (cells : List Patch) → (strip_made call s cells).count ≡ cond (is_spread call) (length cells) s.count
   count-made Spread s cells = refl
   count-made (SetCurve k y) s cells = refl
   count-made (DropCurve k) s cells = refl
@@ -75,17 +74,17 @@ module _ {B : Type 0} where
 
   count-either : (allowed spread : Bool) (o : Option Refusal) (any : AnyStrip B) (call : Call) (new : Strip B) (n : ℕ)
       → new.count ≡ cond spread n (inside any).count
-      → (inside (cond allowed (in-state any call (left o (inside any) new)) any)).count ≡ cond (spread && (allowed && not (is_some o))) n (inside any).count
+      → (inside (cond allowed (in_state any call (left o (inside any) new)) any)).count ≡ cond (spread && (allowed && not (is_some o))) n (inside any).count
   count-either true spread o any call new n e =
       ap (λ (s : Strip B). s.count) (inside-state any call (left o (inside any) new)) ∙ count_left o spread (inside any) new n e
   count-either false true o any call new n e = refl
   count-either false false o any call new n e = refl
 
   pub count-after : (any : AnyStrip B) (cells : List Patch) (call : Call)
-      → (inside (strip-after any cells call)).count
+      → (inside (strip_after any cells call)).count
       ≡ cond (is_spread call && (allows any call && not (is_some (refusal call (inside any) cells)))) (length cells) (inside any).count
   count-after any cells call =
-      count-either (allows any call) (is_spread call) (refusal call (inside any) cells) any call (strip-made call (inside any) cells) (length cells)
+      count-either (allows any call) (is_spread call) (refusal call (inside any) cells) any call (strip_made call (inside any) cells) (length cells)
       (count-made call (inside any) cells)
 
 -- ---- the table of refusals

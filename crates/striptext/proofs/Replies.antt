@@ -6,8 +6,8 @@ use Rattle.runs.specs.Answer.{reply}
 use Rattle.runs.specs.Law.{Law, StepLaw, StepLaws, beside, followed}
 use Rattle.runs.specs.Model as Model
 use Rattle.runs.specs.Model.{Model, fed, opening, seen, written}
-use Rattle.runs.specs.Run.{World, ProperRun, handed, is-own, start, stepped, works}
-use Rattle.runs.specs.State.{allows, in-state, inside, kept}
+use Rattle.runs.specs.Run.{World, ProperRun, handed, is_own, start, stepped, works}
+use Rattle.runs.specs.State.{allows, in_state, inside, kept}
 use Rattle.runs.specs.declared.answer.Answer.{Answer}
 use Rattle.runs.specs.declared.answer.Answer.TheVariants.{Refused}
 use Rattle.runs.specs.declared.run.Handed.{Handed}
@@ -39,7 +39,7 @@ module _ {B : Type 0} where
   open_kept (Open o) s = refl
   open_kept (Finished f) s = refl
 
-  open_told : (any : AnyStrip B) (call : Call) (s : Strip B) → is_open (in-state any call s) ≡ open_after (is_open any) call
+  open_told : (any : AnyStrip B) (call : Call) (s : Strip B) → is_open (in_state any call s) ≡ open_after (is_open any) call
   open_told any Spread s = open_kept any s
   open_told any (SetCurve k y) s = open_kept any s
   open_told any (DropCurve k) s = open_kept any s
@@ -87,28 +87,28 @@ module _ {B : Type 0} (w : World B) (sized : Sized w) (m : Model) (same : (insid
     length-told = length-by s.list s.call fits
 
     -- other cells are of another number
-    other_length : is-own w s ≡ false → eqb (length (handed w s)) m.count ≡ false
+    other_length : is_own w s ≡ false → eqb (length (handed w s)) m.count ≡ false
     other_length other =
         ap (eqb (length (handed w s))) (sym same)
-        ∙ ⊎_elim (λ own. absurd (both_ways (is-own w s) other (own-from-count w sized s fits own))) (λ apart. apart)
+        ∙ ⊎_elim (λ own. absurd (both_ways (is_own w s) other (own-from-count w sized s fits own))) (λ apart. apart)
         (cases_Bool (eqb (length (handed w s)) (inside w.strip).count))
 
-    other-count : is-own w s ≡ false → eqb (cells_handed m s) m.count ≡ false
+    other-count : is_own w s ≡ false → eqb (cells_handed m s) m.count ≡ false
     other-count other = ap (λ n. eqb n m.count) (sym length-told) ∙ other_length other
 
     model-told : followed w m s ≡ fed m s.call (cells_handed m s) true
     model-told =
         cond-true (allows w.strip s.call) _ m allow
-        ∙ ap (λ n. fed m s.call n (is-own w s)) length-told
+        ∙ ap (λ n. fed m s.call n (is_own w s)) length-told
         ∙ ⊎_elim
         (λ own. ap (fed m s.call (cells_handed m s)) own)
         (λ other. ap (fed m s.call (cells_handed m s)) other ∙ other-fed m (cells_handed m s) (other-count other) s.call)
-        (cases_Bool (is-own w s))
+        (cases_Bool (is_own w s))
 
     module _ (meaning : B → Arithmetic) (b : B) (a : Answer) (law : StepLaw meaning b w m s a) where
-      refused-told : (is-own w s || not (works s.call)) ≡ false → a ≡ Model.answer (power (meaning b)) m s.call (cells_handed m s)
+      refused-told : (is_own w s || not (works s.call)) ≡ false → a ≡ Model.answer (power (meaning b)) m s.call (cells_handed m s)
       refused-told asked =
-          let neither = or_parts (is-own w s) (not (works s.call)) asked in
+          let neither = or_parts (is_own w s) (not (works s.call)) asked in
           let work = not-false (works s.call) neither.1 in
           let refusal = law.refused allow asked in
           let by-cells = refused-others s.call (beside m (handed w s)) work (other_length neither.0) in
@@ -121,7 +121,7 @@ module _ {B : Type 0} (w : World B) (sized : Sized w) (m : Model) (same : (insid
           ⊎_elim
           (λ asked. law.answered allow asked ∙ ap (Model.answer (power (meaning b)) m s.call) length-told)
           refused-told
-          (cases_Bool (is-own w s || not (works s.call)))
+          (cases_Bool (is_own w s || not (works s.call)))
 
 -- ---- a run
 
@@ -145,7 +145,7 @@ module _ {B : Type 0} (b : B) where
       (λ deny.
       let state : is_open (stepped meaning w s).strip ≡ is_open w.strip = ap is_open (cond-false (allows w.strip s.call) _ w.strip deny) in
       let model : followed w m s ≡ m = cond-false (allows w.strip s.call) _ m deny in
-      (λ i. law.not-allowed deny i ∷ (later ∙ λ j. replies (state j) (model j) steps) i)
+      (λ i. law.not_allowed deny i ∷ (later ∙ λ j. replies (state j) (model j) steps) i)
       ∙ sym (cond-false (allowed (is_open w.strip) s.call) _ _ (allowed-told w.strip s.call ∙ deny)))
       (cases_Bool (allows w.strip s.call))
 

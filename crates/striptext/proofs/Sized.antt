@@ -1,7 +1,7 @@
 -- Runs on lists that have as many cells as their numbers say: the strip's own list is told by its length, so that they are proper. Assumes nothing.
 use Rattle.std.proofs.Common.{◌≡◌, ℕ, Bool, true, false, cond, ◌&&◌, eqb, ◌⊎◌, List, [], ◌∷◌, length, get_or, is_some, sym, refl, ap, ◌∙◌, inl, inr, ⊎_elim, arith}
 use Rattle.power.specs.Backend.{Arithmetic}
-use Rattle.runs.specs.Run.{World, accepted, handed, is-own, is_spread, number, own-cells, start, stepped, Proper, ProperRun}
+use Rattle.runs.specs.Run.{World, accepted, handed, is_own, is_spread, number, own_cells, start, stepped, Proper, ProperRun}
 use Rattle.runs.specs.State.{allows, inside}
 use Rattle.runs.specs.declared.run.Handed.{Handed}
 use Rattle.runs.specs.declared.run.Handed.TheVariants.{Own, Numbered}
@@ -22,19 +22,19 @@ AsNumbered lists n = (length (get_or lists n []) ≡ n) ⊎ (length (get_or list
 
 -- the strip counts its own cells, which are as many as their number says, or none
 pub record Sized {B : Type 0} (w : World B) : Type 0 where
-  pub counted : (inside w.strip).count ≡ length (own-cells w)
+  pub counted : (inside w.strip).count ≡ length (own_cells w)
   pub numbered : AsNumbered w.lists w.own
 
 pub start-sized : {B : Type 0} (b : B) (lists : List (List Patch)) → Sized (start b lists)
 start-sized b lists =
-    let none : length (own-cells (start b lists)) ≡ 0 = ap length (get_or_past lists (length lists) [] (omega arith)) in
+    let none : length (own_cells (start b lists)) ≡ 0 = ap length (get_or_past lists (length lists) [] (omega arith)) in
     record { counted = sym none; numbered = inr none }
 
 -- ---- the list that a step hands in
 
 module _ {B : Type 0} (w : World B) (sized : Sized w) where
   own-from-length : (list : Handed) (call : Call) → Fits w.lists (record { list = list; call = call })
-      → length (handed w (record { list = list; call = call })) ≡ length (own-cells w) → is-own w (record { list = list; call = call }) ≡ true
+      → length (handed w (record { list = list; call = call })) ≡ length (own_cells w) → is_own w (record { list = list; call = call }) ≡ true
   own-from-length Own call fits same = or_left _ _ (eq-eqb w.own w.own refl)
   own-from-length (Numbered n) call fits same =
       ⊎_elim
@@ -49,7 +49,7 @@ module _ {B : Type 0} (w : World B) (sized : Sized w) where
 
   module _ (s : Step) (fits : Fits w.lists s) where
     -- as many cells as the strip counts are the strip's own
-    pub own-from-count : eqb (length (handed w s)) (inside w.strip).count ≡ true → is-own w s ≡ true
+    pub own-from-count : eqb (length (handed w s)) (inside w.strip).count ≡ true → is_own w s ≡ true
     own-from-count same = own-from-length s.list s.call fits (eqb-true _ _ same ∙ sized.counted)
 
     step-proper : Proper w s
@@ -86,7 +86,7 @@ module _ {B : Type 0} (meaning : B → Arithmetic) (w : World B) (s : Step) wher
   abbrev spreads : Bool
   spreads = is_spread s.call && accepted w s
 
-  own-length : length (own-cells (stepped meaning w s)) ≡ cond spreads (length (handed w s)) (length (own-cells w))
+  own-length : length (own_cells (stepped meaning w s)) ≡ cond spreads (length (handed w s)) (length (own_cells w))
   own-length = same-lengths (stepped meaning w s).own ∙ of_either (λ n. length (get_or w.lists n [])) spreads (number w s) w.own
 
   pub step-sized : Sized w → Fits w.lists s → Sized (stepped meaning w s)

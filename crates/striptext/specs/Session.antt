@@ -7,7 +7,6 @@ use Rattle.runs.specs.Model as Model
 use Rattle.runs.specs.State.{allowed_open, allowed_finished}
 use Rattle.runs.specs.declared.answer.Answer.{Answer}
 use Rattle.runs.specs.declared.answer.Answer.TheVariants.{NotAllowed}
-use Rattle.runs.specs.declared.run.Handed.{Handed}
 use Rattle.runs.specs.declared.run.Handed.TheVariants.{Own, Numbered}
 use Rattle.runs.specs.declared.run.Step.{Step}
 use Rattle.strip.specs.declared.call.Call.{Call}

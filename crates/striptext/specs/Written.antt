@@ -1,5 +1,5 @@
 -- What is written for an answer. Assumes nothing.
-use Rattle.std.specs.Prelude.{ℕ, List, [], ◌∷◌, ◌++◌, codes, to_bits, Float}
+use Rattle.std.specs.Prelude.{ℕ, List, ◌∷◌, ◌++◌, codes, to_bits, Float}
 use Rattle.std.specs.Float.{binary32}
 use Rattle.runs.specs.declared.answer.Answer.{Answer}
 use Rattle.runs.specs.declared.answer.Answer.TheVariants.{NotAllowed, Refused, Count, Value, Patch, Done}

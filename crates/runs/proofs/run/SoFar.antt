@@ -6,7 +6,7 @@ use Rattle.std.proofs.lemmas.List.{append_assoc, append-nil, at_drop_more, at_dr
 use Rattle.strip.specs.Strip.{opened}
 use Rattle.strip.specs.declared.patch.Patch.{Patch}
 use Rattle.strip.specs.declared.strip.OpenStrip.{OpenStrip}
-use Rattle.runs.specs.Run.{World, world, start, stepped, answer-of, run, answers}
+use Rattle.runs.specs.Run.{World, world, start, stepped, answer_of, run, answers}
 use Rattle.runs.specs.State.{allows, Singles}
 use Rattle.runs.specs.declared.answer.Answer.{Answer}
 use Rattle.runs.specs.declared.run.Step.{Step}
@@ -28,7 +28,7 @@ module _ {B : Type 0} (meaning : B → Arithmetic) (first : World B) (steps : Li
 
   -- the next step is made, and its answer stands in its place
   pub one_more : (w w' : World B) (i : ℕ) (got : List Answer) (a : Answer) (none : Step) → i < length steps → SoFar w i got
-      → w' ≡ stepped meaning w (get_or steps i none) → a ≡ answer-of meaning w (get_or steps i none)
+      → w' ≡ stepped meaning w (get_or steps i none) → a ≡ answer_of meaning w (get_or steps i none)
       → (allows w.strip (get_or steps i none).call ≡ true → Singles (get_or steps i none).call)
       → SoFar w' (i + 1) (set got i a)
   one_more w w' i got a none lt so_far w-is a-is single =

@@ -10,8 +10,8 @@ use Rattle.strip.specs.declared.call.Call.TheVariants.{Spread, SetCurve, DropCur
 use Rattle.strip.specs.declared.patch.Patch.{Patch}
 use Rattle.strip.specs.declared.refusal.Refusal.{Refusal}
 use Rattle.runs.specs.Answer.{reply, is_count}
-use Rattle.runs.specs.Run.{World, world, number, is_spread, stepped, answer-of}
-use Rattle.runs.specs.State.{inside, allows, strip-after, cells-after, answer}
+use Rattle.runs.specs.Run.{World, world, number, is_spread, stepped, answer_of}
+use Rattle.runs.specs.State.{inside, allows, strip_after, cells_after, answer}
 use Rattle.runs.specs.declared.answer.Answer.TheVariants.{NotAllowed, Count}
 use Rattle.runs.specs.declared.run.Handed.TheVariants.{Own, Numbered}
 use Rattle.runs.specs.declared.run.Step.{Step}
@@ -49,14 +49,14 @@ module _ {B : Type 0} (meaning : B → Arithmetic) (any : AnyStrip B) where
 
   -- a call made on the list numbered n
   pub record MadeOn (n : ℕ) (call : Call) (lists lists' : List (List Patch)) (after : Called B) : Type 0 where
-    pub strip-is : after.strip ≡ strip-after any (get_or lists n []) call
+    pub strip-is : after.strip ≡ strip_after any (get_or lists n []) call
     pub answer-is : after.answer ≡ answer meaning any (get_or lists n []) call
-    pub lists-are : lists' ≡ set lists n (cells-after meaning any (get_or lists n []) call)
+    pub lists-are : lists' ≡ set lists n (cells_after meaning any (get_or lists n []) call)
 
   module _ {V : Type 0} (items : V → List Patch) (n : ℕ) (call : Call) (vs vs' : List V) (after called : Called B) (same : after ≡ called) where
     -- with a list that there is
     pub within-lists : (v v' : V) (cells cells' : List Patch) → n < length vs → cells ≡ items (get_or vs n v) → vs' ≡ set vs n v' → items v' ≡ cells'
-        → called.strip ≡ strip-after any cells call → called.answer ≡ answer meaning any cells call → cells' ≡ cells-after meaning any cells call
+        → called.strip ≡ strip_after any cells call → called.answer ≡ answer meaning any cells call → cells' ≡ cells_after meaning any cells call
         → MadeOn n call (map items vs) (map items vs') after
     within-lists v v' cells cells' lt cells_are vs-are items-are called-strip called-answer called-cells =
         let handed : cells ≡ get_or (map items vs) n [] = cells_are ∙ sym (get_or-map items vs n v [] lt) in
@@ -64,12 +64,12 @@ module _ {B : Type 0} (meaning : B → Arithmetic) (any : AnyStrip B) where
         record { strip-is = cc; answer-is = cc; lists-are = cc }
 
     -- with the empty list that stands past them
-    pub past-lists : length vs ≤ n → vs' ≡ vs → called.strip ≡ strip-after any [] call → called.answer ≡ answer meaning any [] call
+    pub past-lists : length vs ≤ n → vs' ≡ vs → called.strip ≡ strip_after any [] call → called.answer ≡ answer meaning any [] call
         → MadeOn n call (map items vs) (map items vs') after
     past-lists le vs-are called-strip called-answer =
         let past : length (map items vs) ≤ n = omega (arith, length-map vs items) in
         let handed : get_or (map items vs) n [] ≡ [] = get_or_past (map items vs) n [] past in
-        let writes = set_past (map items vs) n (cells-after meaning any (get_or (map items vs) n []) call) past in
+        let writes = set_past (map items vs) n (cells_after meaning any (get_or (map items vs) n []) call) past in
         record { strip-is = cc; answer-is = cc; lists-are = cc }
 
   -- and the step that it was
@@ -79,5 +79,5 @@ module _ {B : Type 0} (meaning : B → Arithmetic) (any : AnyStrip B) where
         → world after.strip lists' own' ≡ stepped meaning (world any lists own) s
     step_is own' own_is = let spreads = counted-spread (get_or lists n []) s.call in cc
 
-    pub step-answer : after.answer ≡ answer-of meaning (world any lists own) s
+    pub step-answer : after.answer ≡ answer_of meaning (world any lists own) s
     step-answer = cc
