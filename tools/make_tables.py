@@ -4,7 +4,7 @@
     make_tables.py SRC
 
 SRC is the folder `src` of pxfm 0.1.30. Writes crates/power/src/tables.rt and
-crates/power/specs/Tables.antt; run `rt fmt` after it. The functions of src/lookup.rt are proved to
+crates/power/specs/Tables.antt; run `rt fmt` in crates/power after it. The functions of src/lookup.rt are proved to
 answer the specification's entries, so the two files cannot drift apart.
 """
 import os
@@ -12,16 +12,16 @@ import re
 import sys
 
 TABLES = [
-    ('LOG_RANGE_REDUCTION', 'logs/log2.rs', 'log-range-reduction',
+    ('LOG_RANGE_REDUCTION', 'logs/log2.rs', 'log_range_reduction_list',
      'r, at most eight significant bits, for a significand whose top seven fraction bits are the index.'),
-    ('LOG2_R', 'logs/log2f.rs', 'log2-r', '-log2 r.'),
-    ('LOG2_R_TD', 'powf_tables.rs', 'log2-r-td',
+    ('LOG2_R', 'logs/log2f.rs', 'log2_r_list', '-log2 r.'),
+    ('LOG2_R_TD', 'powf_tables.rs', 'log2_r_td_list',
      '-log2 r as three parts, the lowest first; the last has few bits.'),
-    ('POWF_R2', 'powf_tables.rs', 'powf-r2',
+    ('POWF_R2', 'powf_tables.rs', 'powf_r2_list',
      'The second reduction: 1/(1 + (index - 64)/2^14), nearly.'),
-    ('LOG2_R2_DD', 'powf_tables.rs', 'log2-r2-dd',
+    ('LOG2_R2_DD', 'powf_tables.rs', 'log2_r2_dd_list',
      '-log2 of the second reduction, a pair, the low part first.'),
-    ('EXP2_MID1', 'pow_tables.rs', 'exp2-mid1', '2^(index/64) as a pair, the low part first.'),
+    ('EXP2_MID1', 'pow_tables.rs', 'exp2_mid1_list', '2^(index/64) as a pair, the low part first.'),
 ]
 
 
@@ -57,8 +57,7 @@ def code(tables):
 def specification(tables):
     out = [
         "-- The tables, as bit patterns of f64. The code's tables are tied to these by the functions that read them.",
-        'use mathlib.Core.List.{List, [], _∷_}',
-        'use Prim.Native.Nat.{ℕ}',
+        'use Rattle.std.specs.Prelude.{ℕ, List, [], ◌∷◌}',
     ]
     for name, _, short, about in TABLES:
         rows = tables[name]

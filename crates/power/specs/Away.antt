@@ -1,4 +1,4 @@
--- `roundAway` of a number is the nearest whole number, halves away from zero. Assumes nothing.
+-- `float_round` of a number is the nearest whole number, halves away from zero. Assumes nothing.
 use Rattle.std.specs.Prelude.{◌≡◌, ℕ, suc, ◌*◌, ◌^◌, ◌<◌, ◌≤◌, Bool, true, false, T, ℤ, pos, negsuc, refl, Float}
 use Rattle.std.proofs.Common.{subst, arith, pow_pos}
 use Rattle.std.proofs.Math.Nat.{div-le_of_le-mul}

@@ -66,7 +66,6 @@ zero_is = refl
 some : (m : ℕ) (e : ℤ) → 0 < suc m * up e * 1
 some m e = omega (arith, mul-pos {m = suc m} (omega arith) (up_pos e))
 
--- a zero of a format is written in one way
 no_power : (k : ℕ) → 2 * 2 ^ k ≡ 1 → ⊥
 no_power k h = omega arith
 
@@ -75,6 +74,7 @@ flat (pos zero) h = refl
 flat (pos (suc k)) h = absurd (no_power k (sym (pow-succ' 2 k) ∙ sym (mul-one (2 ^ suc k)) ∙ h))
 flat (negsuc k) h = absurd (no_power k (sym (pow-succ' 2 k) ∙ sym (one-mul (2 ^ suc k)) ∙ h))
 
+-- a zero of a format is written in one way
 zero_exponent : (s : Bool) (e : ℤ) → T (fits binary32 (fin s zero e)) → e ≡ pos 0
 unfolding fits
 zero_exponent s e t = flat e (eqb→eq (up e * down e) 1 t)
