@@ -21,7 +21,9 @@ const INFINITY_F32: u32 = 0x7f80_0000;
 
 // t / 2^shift to the nearest whole number, ties to even.
 fn nearest_even(t: u64, shift: u64) -> u64
-    requires { (t < 2 ^ 63) × ((0 < shift) × (shift < 63)) }
+    requires size { t < 2 ^ 63 }
+    requires some { 0 < shift }
+    requires few { shift < 63 }
     ensures { result ≡ closest t (2 ^ shift) }
 {
     let half = 1 << (shift - 1);

@@ -15,7 +15,8 @@ const EXPONENT_ONE: u32 = 0x0080_0000;
 
 // The f32 of pattern b as m 2^(k - 172), with m of exactly 24 binary digits.
 fn parts(b: u32) -> (u32, u32)
-    requires { (0 < b) × (b < 255 * 2 ^ 23) }
+    requires positive { 0 < b }
+    requires finite { b < 255 * 2 ^ 23 }
     ensures { Parts b result.0 result.1 }
 {
     if b < EXPONENT_ONE {

@@ -15,8 +15,8 @@ use Rattle.power.specs.Fast.{fast}
 use Rattle.power.specs.Powf.{power, magnitude, general, decided}
 use Rattle.power.specs.SpecialCases.{Not, Finite, Positive}
 use Rattle.power.specs.ExactCases.{rounded_once, signedℤ, Times, ExactCase, power_of_two, product as by_product, true_power}
-use Rattle.power.specs.ValuesLemmas.{rounds}
-use Rattle.power.specs.Unique.{value-unique, no-factor}
+use Rattle.power.specs.Lemmas.Values.{rounds}
+use Rattle.power.specs.Lemmas.Unique.{value-unique, no-factor}
 use Rattle.power.proofs.Ends.{pow-over, pow-under}
 use Rattle.power.proofs.Multiples.{sizes, signs, times-signed, times_zero, no-product, one-sign, times-whole, times-one, times-half, larger, squared}
 use Rattle.power.proofs.Repeated.{product-rounded}

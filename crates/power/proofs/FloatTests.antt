@@ -13,7 +13,7 @@ use Rattle.std.specs.Float.{float_one, float_is_infinite, float_with_sign}
 use Rattle.pairs.specs.Whole.{whole, odd}
 use Rattle.power.specs.Rules.{Zero}
 use Rattle.power.specs.SpecialCases.{Not, Finite, Nan, Below1, At1, Above1, Positive, Negative}
-use Rattle.power.specs.Unique.{value-unique}
+use Rattle.power.specs.Lemmas.Unique.{value-unique}
 
 abbrev pub two : Float
 two = fin false 1 (pos 1)

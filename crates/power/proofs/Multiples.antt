@@ -5,7 +5,7 @@ use lib.IntN.{pos-ne-negsuc, neg_ℤ-neg_ℤ}
 use lib.Ieee.{up, down, unlike}
 use Rattle.pairs.proofs.Integers.{abs_neg}
 use Rattle.power.specs.ExactCases.{signedℤ}
-use Rattle.power.specs.Unique.{no-factor}
+use Rattle.power.specs.Lemmas.Unique.{no-factor}
 
 abbrev pub negative : ℤ → Bool
 negative (pos n) = false

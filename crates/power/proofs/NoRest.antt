@@ -2,7 +2,7 @@
 use Rattle.std.proofs.Common.{◌≡◌, ℕ}
 use Rattle.power.specs.Rules.{Within}
 use Rattle.power.specs.declared.fast.Doubt.{Doubt}
-use Rattle.power.specs.Alike.{IsZero}
+use Rattle.power.specs.Lemmas.Alike.{IsZero}
 
 -- 64 y log2 x is n - 2^16, and nothing is left of it
 pub record NoRest (n : ℕ) (d : Doubt) : Type 0 where

@@ -9,8 +9,8 @@ use Rattle.power.specs.Rules.{ScalarRules, Is, IsSum, sign, num, den}
 use Rattle.power.specs.Lookup.{f64}
 use Rattle.power.specs.Reduction.{Small}
 use Rattle.power.specs.Fallback as Fallback
-use Rattle.power.specs.ValuesLemmas.{den_pos, cross, turn_is}
-use Rattle.power.specs.Uses.{dyadic, within, use-fma}
+use Rattle.power.specs.Lemmas.Values.{den_pos, cross, turn_is}
+use Rattle.power.specs.Lemmas.Uses.{dyadic, within, use-fma}
 use Rattle.power.proofs.Range.{sum_number}
 
 -- 2^14

@@ -12,9 +12,9 @@ use Rattle.power.specs.Reduction.{normalize, reduce}
 use Rattle.power.specs.Fast.{log, y64, rest_high, rest, count, scale, exp_poly, tested, fast}
 use Rattle.power.specs.declared.fast.Doubt.{Doubt}
 use Rattle.power.specs.declared.fast.Outcome.TheVariants.{Sure, Open}
-use Rattle.power.specs.ValuesLemmas.{number}
-use Rattle.power.specs.Alike.{IsZero}
-use Rattle.power.specs.Zeros.{mul-one-left}
+use Rattle.power.specs.Lemmas.Values.{number}
+use Rattle.power.specs.Lemmas.Alike.{IsZero}
+use Rattle.power.specs.Lemmas.Zeros.{mul-one-left}
 use Rattle.power.proofs.FloatTests.{ne-itself, not-nan}
 use Rattle.power.proofs.Multiples.{negative}
 use Rattle.power.proofs.NoRest.{NoRest}

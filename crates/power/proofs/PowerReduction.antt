@@ -14,11 +14,11 @@ use Rattle.power.specs.Reduction.{normalize, exponent, reduce, log_poly, negativ
 use Rattle.power.specs.declared.reduction.Reduced.{Reduced}
 use Rattle.power.specs.declared.reduction.Scaled.{Scaled}
 use Rattle.pairs.proofs.Powers.{pow-le-inv, pow-lt-inv}
-use Rattle.power.specs.ValuesLemmas.{bounds}
+use Rattle.power.specs.Lemmas.Values.{bounds}
 use Rattle.power.proofs.TableTest.{every, at}
-use Rattle.power.specs.Alike.{IsZero, same-within}
+use Rattle.power.specs.Lemmas.Alike.{IsZero, same-within}
 use Rattle.power.proofs.Multiples.{negative}
-use Rattle.power.specs.ZeroProducts.{fma-cancels}
+use Rattle.power.specs.Lemmas.ZeroProducts.{fma-cancels}
 use Rattle.power.proofs.ZeroPolynomials.{ranged-within, six-zero, f64-at-zero}
 
 -- ---- the fraction and the exponent of 2^k, by one computed test

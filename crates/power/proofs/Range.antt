@@ -13,8 +13,8 @@ use Rattle.power.specs.Tables.{log_range_reduction_list}
 use Rattle.power.specs.Lookup.{range_reduction}
 use Rattle.power.specs.Reduction as Reduction
 use Rattle.power.specs.Reduction.{Reduces, ReductionRule, Small}
-use Rattle.power.specs.ValuesLemmas.{signs, value→is, scale-is}
-use Rattle.power.specs.Uses.{dyadic, use-fma}
+use Rattle.power.specs.Lemmas.Values.{signs, value→is, scale-is}
+use Rattle.power.specs.Lemmas.Uses.{dyadic, use-fma}
 use Rattle.power.proofs.TableTest.{every, at}
 
 -- ---- the table, by one computed test

@@ -9,8 +9,8 @@ use lib.Ieee.Scale.{round_same}
 use Rattle.std.specs.Float.{round_to_format}
 use Rattle.power.specs.Rules.{Is}
 use Rattle.power.specs.Whole.{repeated, product}
-use Rattle.power.specs.ValuesLemmas.{bounds, value→is}
-use Rattle.power.specs.Uses.{dyadic, product-terms}
+use Rattle.power.specs.Lemmas.Values.{bounds, value→is}
+use Rattle.power.specs.Lemmas.Uses.{dyadic, product-terms}
 use Rattle.power.proofs.Multiples.{negative_power}
 use Rattle.power.proofs.Ends.{Tiny, round-over, round_under, round-tiny}
 

@@ -13,14 +13,14 @@ use Rattle.power.specs.Lookup.{log2_r, log2_r_td}
 use Rattle.power.specs.ExactCases.{Times}
 use Rattle.power.specs.Fast.{log, y64, rest_high, rest, exp_poly}
 use Rattle.power.specs.declared.reduction.Reduced.{Reduced}
-use Rattle.power.specs.ValuesLemmas.{bounds, in-units, den_pos, cross, number, signs, value→is, scale-is}
-use Rattle.power.specs.Unique.{no-factor}
-use Rattle.power.specs.Uses.{within, product-terms}
-use Rattle.power.specs.Alike.{IsZero, zero-within, same-is, same-zero, turn, alike-other}
-use Rattle.power.specs.Zeros.{unlike-comm, unlike-false, neg-number, zero-plus, plus-zero}
+use Rattle.power.specs.Lemmas.Values.{bounds, in-units, den_pos, cross, number, signs, value→is, scale-is}
+use Rattle.power.specs.Lemmas.Unique.{no-factor}
+use Rattle.power.specs.Lemmas.Uses.{within, product-terms}
+use Rattle.power.specs.Lemmas.Alike.{IsZero, zero-within, same-is, same-zero, turn, alike-other}
+use Rattle.power.specs.Lemmas.Zeros.{unlike-comm, unlike-false, neg-number, zero-plus, plus-zero}
 use Rattle.power.proofs.Multiples as Multiples
 use Rattle.power.proofs.Multiples.{negative}
-use Rattle.power.specs.ZeroProducts.{IsProduct, fma-zero-left, fma-zero-right, fma-cancels, times-whole}
+use Rattle.power.specs.Lemmas.ZeroProducts.{IsProduct, fma-zero-left, fma-zero-right, fma-cancels, times-whole}
 use Rattle.power.proofs.ZeroPolynomials.{six-zero, f64-at-zero}
 use Rattle.power.proofs.PowerReduction.{At}
 

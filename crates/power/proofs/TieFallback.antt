@@ -12,11 +12,11 @@ use Rattle.power.specs.Reduction.{negative_one}
 use Rattle.power.specs.Fallback as Fallback
 use Rattle.power.specs.Fallback.{is_nan, either_nan, scale_pair, ordered_add, dx2}
 use Rattle.power.specs.declared.fast.Doubt.{Doubt}
-use Rattle.power.specs.Unique.{is-alike}
-use Rattle.power.specs.Alike.{IsZero, zero-within, alike-zero, alike-other}
-use Rattle.power.specs.Zeros.{plus, nought-zero, plus-zero}
+use Rattle.power.specs.Lemmas.Unique.{is-alike}
+use Rattle.power.specs.Lemmas.Alike.{IsZero, zero-within, alike-zero, alike-other}
+use Rattle.power.specs.Lemmas.Zeros.{plus, nought-zero, plus-zero}
 use Rattle.power.proofs.FloatTests.{ne-itself, not-nan, eq-zero}
-use Rattle.power.specs.ZeroProducts.{fma-zero-left}
+use Rattle.power.specs.Lemmas.ZeroProducts.{fma-zero-left}
 use Rattle.power.proofs.ZeroPairs.{Stays, zeros_within, exact-add-zero, ordered-zeros}
 use Rattle.power.proofs.ZeroPolynomials.{six-zero, ten-zero, pairs-at-zero}
 use Rattle.power.proofs.Places.{factor, shift}

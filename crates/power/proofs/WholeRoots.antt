@@ -5,7 +5,7 @@ use lib.Ieee.Scale.{round_same}
 use lib.Ieee.{root_twice, sqrt}
 use Rattle.pairs.proofs.root.Laws.{twice-square}
 use Rattle.pairs.proofs.Powers.{pow-le-inv}
-use Rattle.power.specs.ValuesLemmas.{bounds}
+use Rattle.power.specs.Lemmas.Values.{bounds}
 
 -- where n is the square of 2^h, and 2^(h + 1) / 2^2272 is a / b
 halved : (n h a b : ℕ) → 0 < b → n ≡ 2 ^ h * 2 ^ h → 2 * 2 ^ h * b ≡ a * 2 ^ 2272 → round binary32 false (root_twice n) (2 ^ 2272) ≡ round binary32 false a b

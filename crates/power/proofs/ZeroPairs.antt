@@ -5,9 +5,9 @@ use Rattle.pairs.specs.declared.double_double.DoubleDouble.{DoubleDouble}
 use Rattle.pairs.specs.DoubleDouble as Pairs
 use Rattle.power.specs.Rules.{Number, Zero, WithinPair, ZeroPair, AlikePair}
 use Rattle.power.specs.Fallback.{larger_exponent, ordered_add}
-use Rattle.power.specs.Unique.{alike-trans}
-use Rattle.power.specs.Alike.{IsZero, Same, zero-within, same-trans, same-within}
-use Rattle.power.specs.Zeros.{plus, minus, add-zeros, sub-zeros, neg-zero, zero-plus, plus-zero, cancels}
+use Rattle.power.specs.Lemmas.Unique.{alike-trans}
+use Rattle.power.specs.Lemmas.Alike.{IsZero, Same, zero-within, same-trans, same-within}
+use Rattle.power.specs.Lemmas.Zeros.{plus, minus, add-zeros, sub-zeros, neg-zero, zero-plus, plus-zero, cancels}
 
 -- p is c but for the signs of zeros, and within the rules' range
 abbrev pub Stays : DoubleDouble → DoubleDouble → Type 0

@@ -6,9 +6,9 @@ use Rattle.pairs.specs.declared.double_double.DoubleDouble.{DoubleDouble}
 use Rattle.power.specs.Backend.{Scalar, Products}
 use Rattle.power.specs.Rules.{ScalarRules, ProductRules, Within, WithinPair, ZeroPair}
 use Rattle.power.specs.Polynomial.{Ops, six, ten, on_f64, on_pairs}
-use Rattle.power.specs.Alike.{IsZero, Same, same-within, same-trans, within_more}
-use Rattle.power.specs.Zeros.{mul-zero-left}
-use Rattle.power.specs.ZeroProducts.{fma-zero-left}
+use Rattle.power.specs.Lemmas.Alike.{IsZero, Same, same-within, same-trans, within_more}
+use Rattle.power.specs.Lemmas.Zeros.{mul-zero-left}
+use Rattle.power.specs.Lemmas.ZeroProducts.{fma-zero-left}
 use Rattle.power.proofs.ZeroPairs.{Stays, zeros_within, stays-trans, plus-product-zero}
 
 -- ---- coefficients, by a computed test

@@ -78,7 +78,8 @@ fn log_low<B: PowfBackend>(dx: f64, i: usize, backend: &B) -> DoubleDouble
 
 // -log2 of the second table's r, and the low parts of -log2 of the first's.
 fn log_mid(index: usize, i: usize) -> DoubleDouble
-    requires { (index < 128) × (i < 193) }
+    requires first { index < 128 }
+    requires second { i < 193 }
     ensures { result ≡ Fallback.log_mid index i }
 {
     let td = log2_r_td(index);

@@ -2,10 +2,10 @@
 ghost use Rattle.pairs.specs.Fused.{fused_sum};
 ghost use Rattle.power.specs.Backend.{fused as fused_arithmetic};
 ghost use Rattle.std.proofs.Common.{lit≤};
-ghost use Rattle.power.specs.Away.{away};
-ghost use Rattle.power.specs.ExponentTests.{tells-whole, tells-odd};
-ghost use Rattle.power.specs.FmaProducts.{fma-products};
-ghost use Rattle.power.specs.FusedRule.{fused-rule};
+ghost use Rattle.power.specs.Lemmas.Away.{away};
+ghost use Rattle.power.specs.Lemmas.ExponentTests.{tells-whole, tells-odd};
+ghost use Rattle.power.specs.Lemmas.FmaProducts.{fma-products};
+ghost use Rattle.power.specs.Lemmas.FusedRule.{fused-rule};
 
 use crate::backend::PowfBackend;
 use pairs::double_double::{DoubleDouble, Fma};
@@ -27,7 +27,14 @@ impl PowfBackend for Fused {
 
     ghost rules = { λ b.
         record {
-          scalar = record { whole_told = tells-whole; odd_told = tells-odd; round_away = λ x X. away x X.0; fma_exact = fused-rule; err_least = lit≤ tt; err_most = lit≤ tt };
+          scalar = record {
+            whole_told = tells-whole;
+            odd_told = tells-odd;
+            round_away = λ x X. away x X.0;
+            fma_exact = fused-rule;
+            err_least = lit≤ tt;
+            err_most = lit≤ tt;
+          };
           products = fma-products fused_sum fused-rule;
         } };
 

@@ -1,10 +1,10 @@
 // The portable backend: a product is rounded, and then the sum.
 ghost use Rattle.power.specs.Backend.{portable as portable_arithmetic};
 ghost use Rattle.std.proofs.Common.{lit≤};
-ghost use Rattle.power.specs.Exact.{twice-rounded};
-ghost use Rattle.power.specs.Away.{away};
-ghost use Rattle.power.specs.ExponentTests.{tells-whole, tells-odd};
-ghost use Rattle.power.specs.PairProducts.{quick-zero-left, quick-zero-right, quick-one-right, quick-zero-left-f64, quick-zero-right-f64};
+ghost use Rattle.power.specs.Lemmas.Exact.{twice-rounded};
+ghost use Rattle.power.specs.Lemmas.Away.{away};
+ghost use Rattle.power.specs.Lemmas.ExponentTests.{tells-whole, tells-odd};
+ghost use Rattle.power.specs.Lemmas.PairProducts.{quick-zero-left, quick-zero-right, quick-one-right, quick-zero-left-f64, quick-zero-right-f64};
 
 use crate::backend::PowfBackend;
 use pairs::double_double::DoubleDouble;

@@ -30,28 +30,28 @@ impl Answer {
     }
 }
 
-pub(crate) fn count(res: Result<usize, Refusal>) -> Answer
-    ensures { result ≡ Spec.of_result Answer.Count res }
+pub(crate) fn count(outcome: Result<usize, Refusal>) -> Answer
+    ensures { result ≡ Spec.of_result Answer.Count outcome }
 {
-    match res {
+    match outcome {
         Ok(n) => Answer::Count(n),
         Err(refusal) => Answer::Refused(refusal),
     }
 }
 
-pub(crate) fn value(res: Result<f32, Refusal>) -> Answer
-    ensures { result ≡ Spec.of_result Answer.Value res }
+pub(crate) fn value(outcome: Result<f32, Refusal>) -> Answer
+    ensures { result ≡ Spec.of_result Answer.Value outcome }
 {
-    match res {
+    match outcome {
         Ok(x) => Answer::Value(x),
         Err(refusal) => Answer::Refused(refusal),
     }
 }
 
-pub(crate) fn patch(res: Result<View, Refusal>) -> Answer
-    ensures { result ≡ Spec.of_result Answer.Patch res }
+pub(crate) fn patch(outcome: Result<View, Refusal>) -> Answer
+    ensures { result ≡ Spec.of_result Answer.Patch outcome }
 {
-    match res {
+    match outcome {
         Ok(view) => Answer::Patch(view),
         Err(refusal) => Answer::Refused(refusal),
     }

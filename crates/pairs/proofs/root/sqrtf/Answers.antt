@@ -16,7 +16,7 @@ pub returns-then-b-ge-INFINITY : goal.returns-then-b-ge-INFINITY
 returns-then-b-ge-INFINITY c = of-infinity c.args.x (subst T (sym c.well_formed.0.1) tt) c.if-not-x.false c.if-b-ge-INFINITY.true
 
 pub parts-m-requires : goal.parts-m-requires
-parts-m-requires c = (pattern-pos c.args.x (subst T (sym c.well_formed.0.1) tt) c.if-not-x.false, c.if-b-ge-INFINITY.false)
+parts-m-requires c = record { positive = pattern-pos c.args.x (subst T (sym c.well_formed.0.1) tt) c.if-not-x.false; finite = c.if-b-ge-INFINITY.false }
 
 pub nearest_root-root-requires : goal.nearest_root-root-requires
 nearest_root-root-requires c =

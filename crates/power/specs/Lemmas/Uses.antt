@@ -7,8 +7,8 @@ use Rattle.std.specs.Float.Ieee.Digits.{back}
 use Rattle.std.specs.Float.Ieee.Fits.{round-fits}
 use Rattle.std.specs.Float.Ieee.Exact.{round_exact}
 use Rattle.power.specs.Rules.{FmaExact, Is, IsSum, Product, MulAdd, Within, sign, num, den}
-use Rattle.power.specs.ValuesLemmas.{den_pos, cross, number, signs, turn_is, value→is, scale-is, scale-sum, resign}
-use Rattle.power.specs.Unique.{no-factor}
+use Rattle.power.specs.Lemmas.Values.{den_pos, cross, number, signs, turn_is, value→is, scale-is, scale-sum, resign}
+use Rattle.power.specs.Lemmas.Unique.{no-factor}
 
 -- ---- numbers given as fractions
 

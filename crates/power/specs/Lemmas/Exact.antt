@@ -7,7 +7,7 @@ use Rattle.std.specs.Float.Ieee.{up, down, unlike, round, sum, add, mul}
 use Rattle.std.specs.Float.Ieee.Fits.{down_pos}
 use Rattle.std.specs.Float.Ieee.Exact.{HasValue}
 use Rattle.power.specs.Rules.{Is, IsSum, Product, MulAdd, Number}
-use Rattle.power.specs.ValuesLemmas.{round-is-value, round-is-same, turn_is, scale-sum}
+use Rattle.power.specs.Lemmas.Values.{round-is-value, round-is-same, turn_is, scale-sum}
 
 -- ---- sums
 

@@ -7,10 +7,10 @@ use Rattle.std.specs.Float.{float_zero as nought, float_one as unit, binary64}
 use Rattle.pairs.specs.declared.double_double.DoubleDouble.{DoubleDouble}
 use Rattle.pairs.specs.DoubleDouble.{splitter, split, exact_mult, quick_mult, quick_mult_f64}
 use Rattle.power.specs.Rules.{Number, Zero, Alike, Within, WithinPair, ZeroPair, AlikePair, one}
-use Rattle.power.specs.Unique.{alike-trans, alike-number}
-use Rattle.power.specs.Alike.{IsZero}
-use Rattle.power.specs.Zeros.{plus, minus, times, nought-zero, mul-zero-left, mul-zero-right, add-zeros, sub-zeros, zero-plus, mul-one-right, neg-number, sub_anti, cancels}
-use Rattle.power.specs.Bounded.{Bounded, mul-bounded, add-bounded, sub-bounded, bounded-more, within-bounded}
+use Rattle.power.specs.Lemmas.Unique.{alike-trans, alike-number}
+use Rattle.power.specs.Lemmas.Alike.{IsZero}
+use Rattle.power.specs.Lemmas.Zeros.{plus, minus, times, nought-zero, mul-zero-left, mul-zero-right, add-zeros, sub-zeros, zero-plus, mul-one-right, neg-number, sub_anti, cancels}
+use Rattle.power.specs.Lemmas.Bounded.{Bounded, mul-bounded, add-bounded, sub-bounded, bounded-more, within-bounded}
 
 abbrev Numbers : DoubleDouble → Type 0
 Numbers p = Number p.lo × Number p.hi

@@ -6,11 +6,11 @@ use Rattle.std.specs.Float.{nan, inf, fin, binary64}
 use Rattle.std.specs.Float.Ieee.{up, down, unlike, round, mul}
 use Rattle.std.specs.Float.Ieee.Fits.{down_pos}
 use Rattle.power.specs.Rules.{FmaExact, Is, IsSum, Product, MulAdd, Number, Within, sign, num, den}
-use Rattle.power.specs.ValuesLemmas.{den_pos, cross, number, signs, own_is, scale-is, resign, round-is-same}
-use Rattle.power.specs.Unique.{is_zero, is-alike}
-use Rattle.power.specs.Uses.{dyadic}
-use Rattle.power.specs.Alike.{IsZero, Same, zero-num, zero-within, zero_is}
-use Rattle.power.specs.Zeros.{nought-zero, with_none, of_none}
+use Rattle.power.specs.Lemmas.Values.{den_pos, cross, number, signs, own_is, scale-is, resign, round-is-same}
+use Rattle.power.specs.Lemmas.Unique.{is_zero, is-alike}
+use Rattle.power.specs.Lemmas.Uses.{dyadic}
+use Rattle.power.specs.Lemmas.Alike.{IsZero, Same, zero-num, zero-within, zero_is}
+use Rattle.power.specs.Lemmas.Zeros.{nought-zero, with_none, of_none}
 
 -- ---- a product that is zero
 

@@ -11,8 +11,8 @@ use Rattle.pairs.proofs.Integers.{signed_mul, signed-mul-pos}
 use Rattle.pairs.proofs.Units.{value-digits}
 use Rattle.pairs.proofs.Fusing.{exact-fused}
 use Rattle.power.specs.Rules.{FmaExact, Number, Within, IsSum, MulAdd, sign, num, den}
-use Rattle.power.specs.ValuesLemmas.{den_pos, scale-sum}
-use Rattle.power.specs.InUnits.{Counts, number_fits, count, own_value, within-moderate, within-bounded, sum_number, sum→units, units→sum}
+use Rattle.power.specs.Lemmas.Values.{den_pos, scale-sum}
+use Rattle.power.specs.Lemmas.InUnits.{Counts, number_fits, count, own_value, within-moderate, within-bounded, sum_number, sum→units, units→sum}
 
 -- the result is a value of f64
 fused-fits : (a b c : Float) → T (fits binary64 (fused_sum a b c))

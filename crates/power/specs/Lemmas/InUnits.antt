@@ -9,7 +9,7 @@ use Rattle.pairs.specs.Value.{signed, Value, Moderate, Bounded}
 use Rattle.pairs.proofs.Integers.{signed-abs, signed-zero, signed-mul-pos, signed_same}
 use Rattle.pairs.proofs.Units.{alike-sum, unlike-sum, unlike-sum'}
 use Rattle.power.specs.Rules.{Is, IsSum, Number, Within, sign, num, den}
-use Rattle.power.specs.ValuesLemmas.{bounds, in-units, den_pos, number}
+use Rattle.power.specs.Lemmas.Values.{bounds, in-units, den_pos, number}
 
 -- ---- numbers
 

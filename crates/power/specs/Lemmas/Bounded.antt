@@ -14,7 +14,7 @@ use Rattle.std.specs.Float.Ieee.Nearest.{closest, closest_mono}
 use Rattle.std.specs.Float.Ieee.Order.{drop, kept}
 use Rattle.std.specs.Float.Ieee.Scale.{grid}
 use Rattle.power.specs.Rules.{Number, Within, num, den}
-use Rattle.power.specs.Zeros.{neg-number}
+use Rattle.power.specs.Lemmas.Zeros.{neg-number}
 
 abbrev pub Bounded : ℕ → Float → Type 0
 Bounded k x = Number x × (num x ≤ 2 ^ k * den x)

@@ -8,12 +8,12 @@ use Rattle.std.specs.Float.{float_one as unit, nan, inf, fin}
 use Rattle.pairs.specs.declared.double_double.DoubleDouble.{DoubleDouble}
 use Rattle.pairs.specs.DoubleDouble.{exact_mult_fma, quick_mult_fma, quick_mult_f64_fma}
 use Rattle.power.specs.Rules.{FmaExact, ProductRules, Is, IsSum, Product, Number, Within, WithinPair, Zero, ZeroPair, Alike, AlikePair, sign, num, den}
-use Rattle.power.specs.ValuesLemmas.{den_pos, own_is, scale-is}
-use Rattle.power.specs.Unique.{is-alike}
-use Rattle.power.specs.Alike.{IsZero, same-zero, zero-num, zero-within, within_more}
-use Rattle.power.specs.Zeros.{times, unlike-false, mul-zero-left, mul-zero-right, mul-one-right, neg-number, neg-zero}
-use Rattle.power.specs.ZeroProducts.{fma-zero-left, fma-zero-right, fma-opposite}
-use Rattle.power.specs.PairProducts.{one_unit}
+use Rattle.power.specs.Lemmas.Values.{den_pos, own_is, scale-is}
+use Rattle.power.specs.Lemmas.Unique.{is-alike}
+use Rattle.power.specs.Lemmas.Alike.{IsZero, same-zero, zero-num, zero-within, within_more}
+use Rattle.power.specs.Lemmas.Zeros.{times, unlike-false, mul-zero-left, mul-zero-right, mul-one-right, neg-number, neg-zero}
+use Rattle.power.specs.Lemmas.ZeroProducts.{fma-zero-left, fma-zero-right, fma-opposite}
+use Rattle.power.specs.Lemmas.PairProducts.{one_unit}
 
 -- ---- -a
 

@@ -5,8 +5,8 @@ use Rattle.std.specs.Float.{nan, inf, fin}
 use Rattle.std.specs.Float.Ieee.{up, down}
 use Rattle.power.specs.Rules.{Is, Number, Zero, Alike, Within, num, den}
 use Rattle.power.specs.SpecialCases.{Not}
-use Rattle.power.specs.ValuesLemmas.{den_pos, cross, turn_is}
-use Rattle.power.specs.Unique.{alike-trans, no-factor}
+use Rattle.power.specs.Lemmas.Values.{den_pos, cross, turn_is}
+use Rattle.power.specs.Lemmas.Unique.{alike-trans, no-factor}
 
 -- ---- zeros
 

@@ -8,10 +8,10 @@ use Rattle.std.specs.Float.Ieee.{prec, emax, low, up, down, unlike, size, neares
 use Rattle.std.specs.Float.Ieee.Fits.{down_pos, round-fits, round_is, neg-fits, add-fits, mul-fits}
 use Rattle.std.specs.Float.{float_one as unit, Format, nan, inf, fin, binary64}
 use Rattle.power.specs.Rules.{Is, IsSum, Number, Zero, Alike}
-use Rattle.power.specs.ValuesLemmas.{rounds, round-is-same, own_is, scale-is, resign}
-use Rattle.power.specs.Exact.{sum-is-same}
-use Rattle.power.specs.Unique.{value-unique, is_zero, is-alike, zero_number, alike-number}
-use Rattle.power.specs.Alike.{IsZero, Same, zero_is}
+use Rattle.power.specs.Lemmas.Values.{rounds, round-is-same, own_is, scale-is, resign}
+use Rattle.power.specs.Lemmas.Exact.{sum-is-same}
+use Rattle.power.specs.Lemmas.Unique.{value-unique, is_zero, is-alike, zero_number, alike-number}
+use Rattle.power.specs.Lemmas.Alike.{IsZero, Same, zero_is}
 
 abbrev pub plus : Float → Float → Float
 plus = add binary64

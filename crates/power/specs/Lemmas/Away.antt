@@ -8,7 +8,7 @@ use Rattle.std.specs.Float.Ieee.Exact.{HasValue}
 use Rattle.std.specs.Float.Ieee.Back.{round_whole}
 use Rattle.std.specs.Float.{ratio_round_half_up, round_with, float_round, nan, inf, fin, binary64}
 use Rattle.power.specs.Rules.{Is, Number, sign, num, den}
-use Rattle.power.specs.ValuesLemmas.{bounds, rounds, value→is}
+use Rattle.power.specs.Lemmas.Values.{bounds, rounds, value→is}
 
 whole-stays : (n : ℕ) → n ≡ ratio_round_half_up n 1
 whole-stays n = omega arith
