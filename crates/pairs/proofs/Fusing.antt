@@ -1,9 +1,8 @@
 -- A product and a sum of values with one rounding: the product and two sums with their remainders, and the sum of the remainders rounded to odd.
-use Rattle.std.proofs.Common.{◌≡◌, ℕ, suc, ◌+◌, ◌*◌, ◌^◌, ◌≤◌, Bool, true, false, cond, not, ◌||◌, T, ◌⊎◌, ℤ, pos, ◌+ℤ◌, ◌-ℤ◌, ◌*ℤ◌, nat_abs, sym, refl, ap, ◌∙◌, subst, inl, inr, true≢false, le_trans, le_of_eq, le_of_lt, mul-le-mul, le_of_mul-le-mul_right, arith, pow_pos, pow_mono, pow-add}
+use Rattle.std.proofs.Common.{rules, ◌≡◌, ℕ, suc, ◌+◌, ◌^◌, ◌≤◌, Bool, true, false, cond, not, ◌||◌, T, ℤ, pos, ◌+ℤ◌, ◌-ℤ◌, ◌*ℤ◌, nat_abs, sym, refl, ap, ◌∙◌, subst, inl, inr, true≢false, le_trans, le_of_eq, le_of_lt, mul-le-mul, le_of_mul-le-mul_right, arith, pow_pos, pow_mono, pow-add}
 use borrow.Author.Differences.{ints}
 use lib.Ieee.{Float, binary64, eq, fits}
 use Rattle.std.specs.Float.{float_is_finite}
-use Rattle.pairs.specs.declared.double_double.DoubleDouble.{DoubleDouble}
 use Rattle.pairs.specs.Value.{Value, roundℤ, Middle, Moderate, Bounded, Exactly, UnitsOfProduct}
 use Rattle.pairs.specs.DoubleDouble.{plus, times, exact_mult, full_exact_add}
 use Rattle.pairs.specs.Fused as Fused
@@ -33,18 +32,16 @@ record Small (h l : Float) (z : ℤ) (e : Exactly z h l) (n : ℕ) : Type 0 wher
 -- a bound on z bounds its two parts
 small : (n : ℕ) (h l : Float) (z : ℤ) (e : Exactly z h l) → nat_abs z ≤ 2 ^ (53 + n) → Small h l z e n
 small n h l z e b =
-    let k : nat_abs e.H ≤ 2 ^ (53 + n) = le_trans (le_of_eq (ap nat_abs e.nearest)) (round-below 53 z n (omega arith) b) in
+    let k : nat_abs e.H ≤ 2 ^ (53 + n) = grind (arith, round-below) in
     record { upper = k; lower = le_trans (rest_le e.H e.L z (2 ^ (53 + n)) e.exact b k) (le_of_eq (sym (double-next 53 n))) }
 
 -- a product of moderate numbers is at most 2^1874 units
 product_small : (X Y W : ℤ) → nat_abs X ≤ 2 ^ 1474 → nat_abs Y ≤ 2 ^ 1474 → UnitsOfProduct X Y W → nat_abs W ≤ 2 ^ 1874
-product_small X Y W a b e =
-    let n : nat_abs W * 2 ^ 1074 ≡ nat_abs X * nat_abs Y = sym (nat_abs_mul W (pos (2 ^ 1074))) ∙ ap nat_abs e ∙ nat_abs_mul X Y in
-    le_of_mul-le-mul_right (le_trans (le_of_eq n) (le_trans (mul-le-mul a b) (le_of_eq (sym (pow-add 2 1474 1474) ∙ pow-add 2 1874 1074)))) (pow_pos 1074)
+product_small X Y W a b e = grind (arith, nat_abs_mul, le_of_mul-le-mul_right, mul-le-mul, pow-add, pow_pos)
 
 -- a sum is at most twice the bound on its terms
 sum-small : (n : ℕ) (x y : ℤ) → nat_abs x ≤ 2 ^ (53 + n) → nat_abs y ≤ 2 ^ (53 + n) → nat_abs (x +ℤ y) ≤ 2 ^ (53 + suc n)
-sum-small n x y h k = le_trans (sum-le x y (2 ^ (53 + n)) h k) (le_of_eq (sym (double-next 53 n)))
+sum-small n x y h k = grind (arith, sum-le, double-next)
 
 -- a larger exponent
 grow : (n q r : ℕ) → q ≤ r → n ≤ 2 ^ q → n ≤ 2 ^ r
@@ -52,7 +49,7 @@ grow n q r h k = le_trans k (pow_mono h)
 
 -- a bounded value from its units
 bounded-by : (q r : ℕ) (x : Float) (z : ℤ) → Value binary64 x z → q ≤ r → nat_abs z ≤ 2 ^ q → Bounded r x
-bounded-by q r x z v h k = record { units = z; is = v; small = grow (nat_abs z) q r h k }
+bounded-by q r x z v h k = search (rules, grow)
 
 -- ---- values
 
@@ -69,10 +66,10 @@ module _ (a b c : Float) (Z W : ℤ) (tc : T (fits binary64 c)) (vc : Value bina
   su = small 1821 uh ul W E bw
 
   high_small : nat_abs E.H ≤ 2 ^ 2000
-  high_small = grow (nat_abs E.H) 1874 2000 (omega arith) su.upper
+  high_small = grind (arith, grow, su)
 
   low_small : nat_abs E.L ≤ 2 ^ 2000
-  low_small = grow (nat_abs E.L) 1875 2000 (omega arith) su.lower
+  low_small = grind (arith, grow, su)
 
   -- the plain sum
   plain_value : Value binary64 (plus (times a b) c) (roundℤ 53 (E.H +ℤ Z))
@@ -131,7 +128,7 @@ module _ (a b c : Float) (Z W : ℤ) (tc : T (fits binary64 c)) (vc : Value bina
       go false false e f = absurd (true≢false (sym f))
 
 -- the result is a b + c rounded once, for whatever a, b and c are in units
-pub fused-once : (a b c : Float) → T (fits binary64 a) → T (fits binary64 b) → T (fits binary64 c) → Moderate a → Moderate b → Bounded 2000 c
+fused-once : (a b c : Float) → T (fits binary64 a) → T (fits binary64 b) → T (fits binary64 c) → Moderate a → Moderate b → Bounded 2000 c
     → (X Y Z S : ℤ) → Value binary64 a X → Value binary64 b Y → Value binary64 c Z → UnitsOfSum X Y Z S → Value binary64 (fused_sum a b c) (roundℤ 53 S)
 fused-once a b c ta tb tc ma mb bc X Y Z S va vb vc e =
     let p = exact-mult a b ta tb ma mb X Y va vb in
@@ -143,37 +140,3 @@ fused-once a b c ta tb tc ma mb bc X Y Z S va vb vc e =
 -- the contract of `fused_sum`
 pub exact-fused : (a b c : Float) → T (fits binary64 a) → T (fits binary64 b) → T (fits binary64 c) → Moderate a → Moderate b → Bounded 2000 c → ExactFused a b c (fused_sum a b c)
 exact-fused a b c ta tb tc ma mb bc X Y Z S va vb vc e d = subst (Value binary64 (fused_sum a b c)) (digits-stay 53 S (omega arith) d) (fused-once a b c ta tb tc ma mb bc X Y Z S va vb vc e)
-
--- ---- the ways through the code, as the definition has them
-
--- the plain sum
-pub is_plain : (a b c : Float) → (eq (times a b) Fused.zero ≡ true) ⊎ (float_is_finite (plus (times a b) c) ≡ false) → plus (times a b) c ≡ fused_sum a b c
-unfolding fused_sum
-is_plain a b c h = sym (ap (λ (p : Bool). cond p (plus (times a b) c) (fused_parts a b c)) (some (eq (times a b) Fused.zero) (float_is_finite (plus (times a b) c)) h))
-  where
-    some : (p q : Bool) → (p ≡ true) ⊎ (q ≡ false) → (p || not q) ≡ true
-    some true q h = refl
-    some false false h = refl
-    some false true (inl h) = absurd (true≢false (sym h))
-    some false true (inr h) = absurd (true≢false h)
-
--- the parts, added up
-pub is-parts : (a b c : Float) (u t v : DoubleDouble) (o : Float) → eq (times a b) Fused.zero ≡ false → float_is_finite (plus (times a b) c) ≡ true
-    → u ≡ exact_mult a b → t ≡ full_exact_add c u.lo → v ≡ full_exact_add u.hi t.hi → o ≡ add_odd t.lo v.lo → plus v.hi o ≡ fused_sum a b c
-unfolding fused_sum fused_parts
-is-parts a b c u t v o h k eu et ev eo =
-    (λ i. plus (w i).hi (x i)) ∙ sym (ap (λ (p : Bool). cond p (plus (times a b) c) (fused_parts a b c)) (none (eq (times a b) Fused.zero) (float_is_finite (plus (times a b) c)) h k))
-  where
-    s : t ≡ full_exact_add c (exact_mult a b).lo
-    s = et ∙ ap (λ (y : DoubleDouble). full_exact_add c y.lo) eu
-
-    w : v ≡ full_exact_add (exact_mult a b).hi (full_exact_add c (exact_mult a b).lo).hi
-    w = ev ∙ (λ i. full_exact_add (eu i).hi (s i).hi)
-
-    x : o ≡ add_odd (full_exact_add c (exact_mult a b).lo).lo (full_exact_add (exact_mult a b).hi (full_exact_add c (exact_mult a b).lo).hi).lo
-    x = eo ∙ (λ i. add_odd (s i).lo (w i).lo)
-
-    none : (p q : Bool) → p ≡ false → q ≡ true → (p || not q) ≡ false
-    none true q h k = absurd (true≢false h)
-    none false false h k = absurd (true≢false (sym k))
-    none false true h k = refl

@@ -1,7 +1,7 @@
 -- The split of an f64 into two halves of 26 digits is exact, for values that are zero or from 2^-400 to 2^400 in size.
-use Rattle.std.proofs.Common.{◌≡◌, ℕ, ◌+◌, ◌*◌, ◌^◌, ◌<◌, ◌≤◌, Bool, true, false, T, ℤ, pos, negsuc, ◌+ℤ◌, ◌-ℤ◌, ◌*ℤ◌, neg_ℤ, nat_abs, sym, refl, ap, ◌∙◌, subst, inl, inr, add_comm, eq-or-lt_of_le, lt_of_not-le, arith}
+use Rattle.std.proofs.Common.{rules, ◌≡◌, ℕ, ◌+◌, ◌*◌, ◌^◌, ◌<◌, ◌≤◌, Bool, true, false, T, ℤ, pos, negsuc, ◌+ℤ◌, ◌-ℤ◌, ◌*ℤ◌, neg_ℤ, nat_abs, sym, refl, ap, ◌∙◌, subst, inl, inr, add_comm, eq-or-lt_of_le, lt_of_not-le, arith}
 use native.Mathlib.Decide.{dec_le}
-use borrow.Author.Differences.{ints, product_is, abs_is}
+use borrow.Author.Differences.{ints}
 use lib.Ieee.{Float, binary64, of_bits, fits}
 use Rattle.pairs.specs.Value.{signed, Value, Middle, Moderate, Halves, Halved}
 use Rattle.pairs.specs.DoubleDouble.{plus, minus, times, splitter, split}
@@ -18,11 +18,11 @@ Full M = (2 ^ 52 ≤ nat_abs M) × (nat_abs M < 2 ^ 53)
 
 -- the product is at most 2^81
 product-below : (M : ℤ) → Full M → Abs (pos 134217729 *ℤ M) (2 ^ 81)
-product-below M h = omega (arith, abs_is M, product_is (pos 134217729) M)
+product-below M h = grind arith
 
 -- and at least 2^79
 product-above : (M : ℤ) → Full M → 2 ^ 80 ≤ nat_abs (pos 134217729 *ℤ M) * 2
-product-above M h = omega (arith, abs_is M, product_is (pos 134217729) M, abs_is (pos 134217729 *ℤ M))
+product-above M h = grind arith
 
 -- M - r has its last place at 2^27, where the product is above 2^80
 rest-large : (M r : ℤ) → Full M → 2 ^ 80 < nat_abs (pos 134217729 *ℤ M) → Close r (pos 134217729 *ℤ M) (2 ^ 28) → Abs (M -ℤ r) (2 ^ 80) × (2 ^ 80 ≤ nat_abs (M -ℤ r) * 2)
@@ -78,7 +78,7 @@ low-short M H c = omega (arith, ints)
 -- 2^27 + 1 is a value
 splitter-value : Scaled binary64 splitter (pos 134217729) 1074
 unfolding of_bits
-splitter-value = record { sign = false; count = 134217729 * 2 ^ 1074; is = refl; has = (refl, refl) }
+splitter-value = grind arith
 
 -- M is A 2^27 + L, and x and y are the two parts at the scale i
 pub record HalvesAt (M : ℤ) (i : ℕ) (x y : Float) : Type 0 where
@@ -128,11 +128,7 @@ split_at a M i v h b =
 -- the halves of a zero are zeros
 pub split-zero : (a : Float) → Value binary64 a (pos 0) → Value binary64 (split a).hi (pos 0) × Value binary64 (split a).lo (pos 0)
 unfolding split
-split-zero a v =
-    let t1 = times_zero binary64 splitter a (pos 134217729 *ℤ pos (2 ^ 1074)) splitter-value v in
-    let t2 = sub-zeros binary64 a (times splitter a) v t1 in
-    let hi = add-zeros binary64 (times splitter a) (minus a (times splitter a)) t1 t2 in
-    (hi, sub-zeros binary64 a (plus (times splitter a) (minus a (times splitter a))) v hi)
+split-zero a v = search (rules, times_zero, splitter-value, sub-zeros, add-zeros)
 
 -- a moderate value that is not 0, at its scale
 abbrev pub Normal53 : ℤ → Type 0

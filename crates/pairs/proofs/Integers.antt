@@ -1,10 +1,10 @@
 -- Integers: the laws of a ring, bounds on a size, the sign and the size of an integer, and multiples of a power of two.
-use Rattle.std.proofs.Common.{◌≡◌, ℕ, suc, ◌+◌, ◌-◌, ◌*◌, ◌^◌, ◌<◌, ◌≤◌, Bool, true, false, not, ℤ, pos, negsuc, ◌+ℤ◌, ◌-ℤ◌, ◌*ℤ◌, neg_ℤ, nat_abs, sym, refl, ap, ◌∙◌, subst, mul-le-mul, arith, pow-add}
+use Rattle.std.proofs.Common.{◌≡◌, ℕ, suc, ◌+◌, ◌-◌, ◌*◌, ◌^◌, ◌<◌, ◌≤◌, Bool, true, false, not, ℤ, pos, negsuc, ◌+ℤ◌, ◌-ℤ◌, ◌*ℤ◌, neg_ℤ, nat_abs, sym, refl, ap, ◌∙◌, mul-le-mul, arith, pow-add}
 use native.Mathlib.Nat.{eq_of_mul-eq-mul_right}
 use lib.IntN.{+ℤ_assoc, +ℤ_comm, *ℤ_comm, neg_ℤ-neg_ℤ}
 use lib.Ieee.{unlike}
 use lib.Ieee.Digits.{back}
-use borrow.Author.Differences.{up, down, ints, same_in, sum_is_lem, product_is, neg_is, abs_is}
+use borrow.Author.Differences.{up, down, ints, same_in, sum_is_lem, product_is, abs_is}
 use Rattle.pairs.specs.Value.{signed}
 
 -- ---- a ring
@@ -15,7 +15,7 @@ distr a b c = same_in ((a +ℤ b) *ℤ c) (a *ℤ c +ℤ b *ℤ c) (omega (arith
 
 -- and from the left
 distl : (a b c : ℤ) → a *ℤ (b +ℤ c) ≡ a *ℤ b +ℤ a *ℤ c
-distl a b c = *ℤ_comm a (b +ℤ c) ∙ distr b c a ∙ ap (λ (z : ℤ). z +ℤ c *ℤ a) (*ℤ_comm b a) ∙ ap (λ (z : ℤ). a *ℤ b +ℤ z) (*ℤ_comm c a)
+distl a b c = grind (arith, *ℤ_comm, distr)
 
 -- products associate
 pub mul-assocℤ : (a b c : ℤ) → (a *ℤ b) *ℤ c ≡ a *ℤ (b *ℤ c)
@@ -23,15 +23,15 @@ mul-assocℤ a b c = same_in ((a *ℤ b) *ℤ c) (a *ℤ (b *ℤ c)) (omega (ari
 
 -- the first two of three factors change places
 mul-left-commℤ : (a b c : ℤ) → a *ℤ (b *ℤ c) ≡ b *ℤ (a *ℤ c)
-mul-left-commℤ a b c = sym (mul-assocℤ a b c) ∙ ap (λ (z : ℤ). z *ℤ c) (*ℤ_comm a b) ∙ mul-assocℤ b a c
+mul-left-commℤ a b c = grind (arith, mul-assocℤ, *ℤ_comm)
 
 -- the last two of three factors change places
 pub mul-right-commℤ : (a b c : ℤ) → a *ℤ b *ℤ c ≡ a *ℤ c *ℤ b
-mul-right-commℤ a b c = mul-assocℤ a b c ∙ ap (λ (z : ℤ). a *ℤ z) (*ℤ_comm b c) ∙ sym (mul-assocℤ a c b)
+mul-right-commℤ a b c = grind (arith, mul-assocℤ, *ℤ_comm)
 
 -- the two middle factors change places
 pub mul-swapℤ : (a b c d : ℤ) → a *ℤ b *ℤ (c *ℤ d) ≡ a *ℤ c *ℤ (b *ℤ d)
-mul-swapℤ a b c d = mul-assocℤ a b (c *ℤ d) ∙ ap (λ (z : ℤ). a *ℤ z) (mul-left-commℤ b c d) ∙ sym (mul-assocℤ a c (b *ℤ d))
+mul-swapℤ a b c d = grind (arith, mul-assocℤ, mul-left-commℤ)
 
 -- the first two of three terms change places
 add-left-commℤ : (a b c : ℤ) → a +ℤ (b +ℤ c) ≡ b +ℤ (a +ℤ c)
@@ -39,21 +39,19 @@ add-left-commℤ a b c = omega (arith, ints)
 
 -- a sign comes out of the first factor
 pub neg-mul : (a b : ℤ) → neg_ℤ a *ℤ b ≡ neg_ℤ (a *ℤ b)
-neg-mul a b = same_in (neg_ℤ a *ℤ b) (neg_ℤ (a *ℤ b)) (omega (arith, product_is (neg_ℤ a) b, product_is a b, neg_is (a *ℤ b), ap (λ (n : ℕ). n * up b) (neg_is a).0, ap (λ (n : ℕ). n * up b) (neg_is a).1, ap (λ (n : ℕ). n * down b) (neg_is a).0, ap (λ (n : ℕ). n * down b) (neg_is a).1))
+neg-mul a b = grind arith
 
 -- and out of the second
 mul-neg : (a b : ℤ) → a *ℤ neg_ℤ b ≡ neg_ℤ (a *ℤ b)
-mul-neg a b = *ℤ_comm a (neg_ℤ b) ∙ neg-mul b a ∙ ap neg_ℤ (*ℤ_comm b a)
+mul-neg a b = grind arith
 
 -- a product distributes over a difference
 pub sub-mul : (a b c : ℤ) → (a -ℤ b) *ℤ c ≡ a *ℤ c -ℤ b *ℤ c
-sub-mul a b c = distr a (neg_ℤ b) c ∙ ap (λ (z : ℤ). a *ℤ c +ℤ z) (neg-mul b c)
+sub-mul a b c = grind (arith, distr, neg-mul)
 
 -- a positive factor cancels
 pub mul-cancel : (a b : ℤ) (n : ℕ) → 0 < n → a *ℤ pos n ≡ b *ℤ pos n → a ≡ b
-mul-cancel a b n N e =
-    let h : (up a + down b) * n ≡ (up b + down a) * n = omega (arith, product_is a (pos n), product_is b (pos n), ap up e, ap down e) in
-    same_in a b (eq_of_mul-eq-mul_right n N (up a + down b) (up b + down a) h)
+mul-cancel a b n N e = grind (arith, product_is, same_in, eq_of_mul-eq-mul_right)
 
 -- sums of products in one form
 ruleset ring = (distr, distl, mul-assocℤ, *ℤ_comm, mul-left-commℤ, +ℤ_assoc, +ℤ_comm, add-left-commℤ, neg-mul, mul-neg)
@@ -103,7 +101,7 @@ nat_abs_mul (negsuc a) (negsuc b) = refl
 
 -- a bound on a product
 pub abs-mul : (a b : ℤ) (m n : ℕ) → Abs a m → Abs b n → Abs (a *ℤ b) (m * n)
-abs-mul a b m n p q = abs-in (a *ℤ b) (m * n) (subst (λ (k : ℕ). k ≤ m * n) (sym (nat_abs_mul a b)) (mul-le-mul (abs-out a m p) (abs-out b n q)))
+abs-mul a b m n p q = grind (arith, abs-in, nat_abs_mul, mul-le-mul, abs-out)
 
 -- the size of a sum
 pub sum-le : (x y : ℤ) (n : ℕ) → nat_abs x ≤ n → nat_abs y ≤ n → nat_abs (x +ℤ y) ≤ n * 2
@@ -116,10 +114,6 @@ sub-le x y n h k = omega (arith, ints)
 -- the size of one term of a sum
 pub rest_le : (s e w : ℤ) (n : ℕ) → s +ℤ e ≡ w → nat_abs w ≤ n → nat_abs s ≤ n → nat_abs e ≤ n * 2
 rest_le s e w n h a b = omega (arith, ints)
-
--- the triangle inequality
-pub sub-le-sum : (x y : ℤ) → nat_abs (x -ℤ y) ≤ nat_abs x + nat_abs y
-sub-le-sum x y = omega (arith, ints)
 
 -- ---- the sign
 
@@ -154,7 +148,7 @@ pub signed_mul : (s t : Bool) (m n : ℕ) → signed s m *ℤ signed t n ≡ sig
 signed_mul false false m n = refl
 signed_mul false true m n = mul-neg (pos m) (pos n)
 signed_mul true false m n = neg-mul (pos m) (pos n)
-signed_mul true true m n = neg-mul (pos m) (neg_ℤ (pos n)) ∙ ap neg_ℤ (mul-neg (pos m) (pos n)) ∙ neg_ℤ-neg_ℤ (pos (m * n))
+signed_mul true true m n = grind (arith, neg-mul, mul-neg, neg_ℤ-neg_ℤ)
 
 -- a positive factor comes out of a signed number
 pub signed-mul-pos : (s : Bool) (a b : ℕ) → signed s (a * b) ≡ signed s a *ℤ pos b
@@ -176,7 +170,7 @@ Multiple z e = (q : ℤ) × (z ≡ q *ℤ pos (2 ^ e))
 
 -- a factor of 2^(e + j) is one of 2^e and one of 2^j
 pub scale-add : (z : ℤ) (e j : ℕ) → z *ℤ pos (2 ^ (e + j)) ≡ z *ℤ pos (2 ^ e) *ℤ pos (2 ^ j)
-scale-add z e j = ap (λ (n : ℕ). z *ℤ pos n) (pow-add 2 e j) ∙ sym (mul-assocℤ z (pos (2 ^ e)) (pos (2 ^ j)))
+scale-add z e j = grind (arith, pow-add, mul-assocℤ)
 
 -- the size of a multiple
 pub scale-abs : (z : ℤ) (j : ℕ) → nat_abs (z *ℤ pos (2 ^ j)) ≡ nat_abs z * 2 ^ j

@@ -1,7 +1,6 @@
 -- Rounding an integer to p binary digits, to nearest: what stays, the error, what the result is a multiple of, and that nothing is nearer.
-use Rattle.std.proofs.Common.{◌≡◌, ℕ, zero, suc, ◌+◌, ◌-◌, ◌*◌, ◌^◌, ◌<◌, ◌≤◌, Bool, true, false, ℤ, pos, ◌-ℤ◌, ◌*ℤ◌, neg_ℤ, nat_abs, sym, refl, ap, ◌∙◌, subst, le_trans, le_of_eq, le_refl, lt_of_lt_of_le, lt_of_le_of_lt, le_of_lt, lt_of_not-le, le_of_mul-le-mul_right, arith, pow_pos, pow_mono, pow-add}
-use native.Mathlib.Decide.{dec_le}
-use borrow.Author.Differences.{up, down, ints, neg_is}
+use Rattle.std.proofs.Common.{rules, ◌≡◌, ℕ, zero, suc, ◌+◌, ◌-◌, ◌*◌, ◌^◌, ◌<◌, ◌≤◌, Bool, true, false, ℤ, pos, ◌-ℤ◌, ◌*ℤ◌, neg_ℤ, nat_abs, sym, refl, ap, ◌∙◌, subst, le_trans, le_of_eq, lt_of_lt_of_le, le_of_lt, le_of_mul-le-mul_right, arith, pow_pos, pow_mono, pow-add}
+use borrow.Author.Differences.{up, down, neg_is}
 use lib.Ieee.{size}
 use lib.Ieee.Digits.{size-lt, size_reaches}
 use Rattle.pairs.specs.Value.{signed, roundℕ, roundℤ, place, HasDigits}
@@ -14,7 +13,7 @@ use Rattle.pairs.proofs.Digits.{Near, Multipleℕ, Nearer, dropped-le, dropped-g
 pub roundℤ-signed : (p : ℕ) (s : Bool) (n : ℕ) → 0 < p → roundℤ p (signed s n) ≡ signed s (roundℕ p n)
 unfolding roundℤ
 roundℤ-signed p false n P = refl
-roundℤ-signed p true zero P = let e : roundℕ p 0 ≡ 0 = round-zero p P in ap pos e ∙ sym (ap (λ (n : ℕ). neg_ℤ (pos n)) e)
+roundℤ-signed p true zero P = grind (arith, round-zero)
 roundℤ-signed p true (suc n) P = refl
 
 -- the rounded integer has the sign of z
@@ -23,7 +22,7 @@ roundℤ-own p z P = ap (roundℤ p) (signed-own z) ∙ roundℤ-signed p (is_ne
 
 -- and its size is that of z rounded
 pub roundℤ-abs : (p : ℕ) (z : ℤ) → 0 < p → nat_abs (roundℤ p z) ≡ roundℕ p (nat_abs z)
-roundℤ-abs p z P = ap nat_abs (roundℤ-own p z P) ∙ signed-abs (is_neg z) (roundℕ p (nat_abs z))
+roundℤ-abs p z P = grind (arith, roundℤ-own, signed-abs)
 
 -- 2 |a - b| ≤ u
 abbrev pub Close : ℤ → ℤ → ℕ → Type 0
@@ -51,19 +50,19 @@ multiple-of p z e P m = subst (λ (x : ℤ). Multiple x e) (sym (roundℤ-own p 
 
 -- k 2^j stays where |k| ≤ 2^p
 pub round-exactℤ : (p : ℕ) (z k : ℤ) (j : ℕ) → 0 < p → z ≡ k *ℤ pos (2 ^ j) → nat_abs k ≤ 2 ^ p → roundℤ p z ≡ z
-round-exactℤ p z k j P e h = roundℤ-own p z P ∙ ap (signed (is_neg z)) (round_exact p (nat_abs z) (nat_abs k) j P (ap nat_abs e ∙ nat_abs_mul k (pos (2 ^ j))) h) ∙ sym (signed-own z)
+round-exactℤ p z k j P e h = grind (arith, roundℤ-own, round_exact, nat_abs_mul, signed-own)
 
 -- a bound on z bounds the error
 pub round-errorℤ : (p : ℕ) (z : ℤ) (e : ℕ) → 0 < p → nat_abs z ≤ 2 ^ (p + e) → Close (roundℤ p z) z (2 ^ e)
-round-errorℤ p z e P h = close_of p z (2 ^ e) P (round-error p (nat_abs z) e P h)
+round-errorℤ p z e P h = search (rules, close_of, round-error)
 
 -- a bound on z from below makes the result a multiple
 pub round-multipleℤ : (p : ℕ) (z : ℤ) (e : ℕ) → 0 < p → 2 ^ (p + e) ≤ nat_abs z * 2 → Multiple (roundℤ p z) e
-round-multipleℤ p z e P h = multiple-of p z e P (round-coarse p (nat_abs z) e (dropped-ge p (nat_abs z) e h))
+round-multipleℤ p z e P h = grind (arith, multiple-of, round-coarse, dropped-ge)
 
 -- a multiple of a power of two is rounded to one
 pub round-keepsℤ : (p : ℕ) (z : ℤ) (e : ℕ) → 0 < p → Multiple z e → Multiple (roundℤ p z) e
-round-keepsℤ p z e P m = multiple-of p z e P (round_keeps p (nat_abs z) e (nat_abs m.0, ap nat_abs m.1 ∙ nat_abs_mul m.0 (pos (2 ^ e))))
+round-keepsℤ p z e P m = grind (arith, multiple-of, round_keeps, nat_abs_mul)
 
 -- ---- at the last place of z
 
@@ -80,22 +79,19 @@ place-le p z e h = dropped-le p (nat_abs z) e h
 
 -- a larger number has no lower last place
 pub place_mono : (p : ℕ) (y z : ℤ) → nat_abs y ≤ nat_abs z → place p y ≤ place p z
-place_mono p y z h = place-le p y (place p z) (lt_of_le_of_lt h (place-bound p z))
+place_mono p y z h = grind (arith, place-le, place-bound)
 
 -- a place below the last means that the leading digit is p places above it
 pub place-reach : (p : ℕ) (z : ℤ) (e : ℕ) → e < place p z → 2 ^ (p + e) ≤ nat_abs z
-place-reach p z e h = size_reaches (nat_abs z) (p + e) (in_place (size (nat_abs z)) p e h)
-  where
-    in_place : (s p e : ℕ) → e < s - p → p + e < s
-    in_place s p e h = omega arith
+place-reach p z e h = grind (arith, size_reaches)
 
 -- the result is a multiple of the last place
 pub round-place : (p : ℕ) (z : ℤ) → 0 < p → Multiple (roundℤ p z) (place p z)
-round-place p z P = multiple-of p z (place p z) P (round-coarse p (nat_abs z) (place p z) (le_refl (place p z)))
+round-place p z P = grind (arith, multiple-of, round-coarse)
 
 -- the error is at most half of the last place
 pub round-close : (p : ℕ) (z : ℤ) → 0 < p → Close (roundℤ p z) z (2 ^ place p z)
-round-close p z P = close_of p z (2 ^ place p z) P (round-near p (nat_abs z))
+round-close p z P = search (rules, close_of, round-near)
 
 -- a multiple of the last place, or of a higher one, stays
 pub round-wholeℤ : (p : ℕ) (z : ℤ) (e : ℕ) → 0 < p → place p z ≤ e → Multiple z e → roundℤ p z ≡ z
@@ -115,7 +111,7 @@ digits-place p z P f = subst (λ (x : ℤ). Multiple x (place p z)) (digits-stay
 
 -- a multiple of 2^e up to 2^(p + e) is one
 pub digits_of : (p : ℕ) (z : ℤ) (e : ℕ) → Multiple z e → nat_abs z ≤ 2 ^ (p + e) → HasDigits p z
-digits_of p z e m h = record { k = m.0; t = e; is = m.1; small = le_of_mul-le-mul_right (le_trans (le_of_eq (sym (ap nat_abs m.1 ∙ scale-abs m.0 e))) (le_trans h (le_of_eq (pow-add 2 p e)))) (pow_pos e) }
+digits_of p z e m h = grind (arith, le_of_mul-le-mul_right, scale-abs, pow-add, pow_pos)
 
 -- so is the negative of one
 pub digits-neg : (p : ℕ) (z : ℤ) → HasDigits p z → HasDigits p (neg_ℤ z)
@@ -127,36 +123,25 @@ digits-zero p z e = record { k = pos 0; t = 0; is = e; small = le_of_lt (pow_pos
 
 -- ---- nothing is nearer
 
--- what is nearer in size is nearer, whatever the signs
-nearer-signed : (s t : Bool) (g n m : ℕ) → Nearer g n m → Nearer g n 0 → nat_abs (signed s g -ℤ signed s n) ≤ nat_abs (signed t m -ℤ signed s n)
-nearer-signed false false g n m a b = elim (dec_le m n) [ yes h ↦ let x = a.0 h in omega (arith, ints) | no h ↦ let y = a.1 (le_of_lt (lt_of_not-le h)) in omega (arith, ints) ]
-nearer-signed false true g n m a b = let x = b.0 (omega arith) in omega (arith, ints)
-nearer-signed true false g n m a b = let x = b.0 (omega arith) in omega (arith, ints)
-nearer-signed true true g n m a b = elim (dec_le m n) [ yes h ↦ let x = a.0 h in omega (arith, ints) | no h ↦ let y = a.1 (le_of_lt (lt_of_not-le h)) in omega (arith, ints) ]
-
 -- no w that p digits hold is nearer to z than z rounded
 pub round-nearestℤ : (p : ℕ) (z w : ℤ) → 0 < p → HasDigits p w → nat_abs (roundℤ p z -ℤ z) ≤ nat_abs (w -ℤ z)
 round-nearestℤ p z w P f =
     let n = nat_abs z in
     let s = is_neg z in
-    let a : Nearer (roundℕ p n) n (nat_abs w) = subst (Nearer (roundℕ p n) n) (sym (ap nat_abs f.is ∙ scale-abs f.k f.t)) (round-nearest p n (nat_abs f.k) f.t P f.small) in
+    let a : Nearer (roundℕ p n) n (nat_abs w) = grind (arith, scale-abs, round-nearest) in
     let b : Nearer (roundℕ p n) n 0 = round-nearest p n 0 0 P (le_of_lt (pow_pos p)) in
-    let r : nat_abs (signed s (roundℕ p n) -ℤ signed s n) ≤ nat_abs (signed (is_neg w) (nat_abs w) -ℤ signed s n) = nearer-signed s (is_neg w) (roundℕ p n) n (nat_abs w) a b in
+    let r : nat_abs (signed s (roundℕ p n) -ℤ signed s n) ≤ nat_abs (signed (is_neg w) (nat_abs w) -ℤ signed s n) = grind arith in
     subst (λ (x : ℤ). nat_abs (x -ℤ z) ≤ nat_abs (w -ℤ z)) (sym (roundℤ-own p z P))
     (subst (λ (x : ℤ). nat_abs (signed s (roundℕ p n) -ℤ x) ≤ nat_abs (w -ℤ x)) (sym (signed-own z))
     (subst (λ (x : ℤ). nat_abs (signed s (roundℕ p n) -ℤ signed s n) ≤ nat_abs (x -ℤ signed s n)) (sym (signed-own w)) r))
 
 -- rounding does not cross a power of two
 pub round-below : (p : ℕ) (z : ℤ) (e : ℕ) → 0 < p → nat_abs z ≤ 2 ^ (p + e) → nat_abs (roundℤ p z) ≤ 2 ^ (p + e)
-round-below p z e P h =
-    let n = round-nearest p (nat_abs z) (2 ^ p) e P (le_refl (2 ^ p)) in
-    le_trans (le_of_eq (roundℤ-abs p z P)) (le_trans (n.1 (le_trans h (le_of_eq (pow-add 2 p e)))).0 (le_of_eq (sym (pow-add 2 p e))))
+round-below p z e P h = grind (arith, round-nearest, roundℤ-abs, pow-add)
 
 -- the same from below
 pub round-above : (p : ℕ) (z : ℤ) (e : ℕ) → 0 < p → 2 ^ (p + e) ≤ nat_abs z → 2 ^ (p + e) ≤ nat_abs (roundℤ p z)
-round-above p z e P h =
-    let n = round-nearest p (nat_abs z) (2 ^ p) e P (le_refl (2 ^ p)) in
-    le_trans (le_of_eq (pow-add 2 p e)) (le_trans (n.0 (le_trans (le_of_eq (sym (pow-add 2 p e))) h)).0 (le_of_eq (sym (roundℤ-abs p z P))))
+round-above p z e P h = grind (arith, round-nearest, pow-add, roundℤ-abs)
 
 -- p digits hold what is rounded
 pub digits-rounded : (p : ℕ) (z : ℤ) → 0 < p → HasDigits p (roundℤ p z)

@@ -1,5 +1,5 @@
 -- The neighbours of an f64 by its bit pattern, and a value rounded to odd by the pattern of the value rounded to nearest.
-use Rattle.std.proofs.Common.{◌≡◌, ℕ, zero, suc, ◌+◌, ◌-◌, ◌*◌, ◌/◌, ◌%◌, ◌^◌, ◌<◌, ◌≤◌, Bool, true, false, cond, not, T, ℤ, pos, negsuc, ◌+ℤ◌, ◌-ℤ◌, ◌*ℤ◌, neg_ℤ, nat_abs, sym, refl, ap, ◌∙◌, subst, le_trans, le_of_eq, le_refl, lt_of_lt_of_le, lt_of_le_of_lt, le_of_lt, mul-le-mul_right, lt_of_mul-lt-mul_right, mul-pos, lt_of_not-le, le_of_mul-le-mul_right, arith, pow_pos, pow_mono, pow-add}
+use Rattle.std.proofs.Common.{◌≡◌, ℕ, zero, suc, ◌+◌, ◌-◌, ◌*◌, ◌/◌, ◌%◌, ◌^◌, ◌<◌, ◌≤◌, Bool, true, false, cond, not, T, ℤ, pos, negsuc, ◌+ℤ◌, ◌-ℤ◌, ◌*ℤ◌, neg_ℤ, nat_abs, sym, refl, ap, ◌∙◌, subst, le_trans, le_of_eq, le_refl, lt_of_lt_of_le, lt_of_le_of_lt, le_of_lt, mul-le-mul_right, mul-pos, lt_of_not-le, le_of_mul-le-mul_right, arith, pow_pos, pow_mono, pow-add}
 use borrow.Author.Differences.{ints}
 use lib.Pow.{pow-lt}
 use lib.Ieee.{Float, nan, inf, fin, binary64, size, hid, top, to_bits, of_bits, is_nan, fits}
@@ -16,7 +16,7 @@ use Rattle.pairs.proofs.Nearest.{roundℤ-own, roundℤ-abs, round-wholeℤ}
 -- ---- patterns
 
 -- what has a value is no NaN
-has-no-nan : (x : Float) (s : Bool) (n c : ℕ) → HasValue x s n c → T (not (is_nan x))
+pub has-no-nan : (x : Float) (s : Bool) (n c : ℕ) → HasValue x s n c → T (not (is_nan x))
 unfolding is_nan
 has-no-nan nan s n c h = absurd h
 has-no-nan (inf t) s n c h = tt
@@ -128,24 +128,22 @@ module _ (x : Float) (z : ℤ) (t : T (fits binary64 x)) (v : Value binary64 x (
 
   -- it is not 0
   pub rounded-pos : 0 < roundℕ 53 n
-  rounded-pos = lt_of_lt_of_le (mul-pos (lt_of_lt_of_le (pow_pos 52) K.least) (pow_pos d)) (le_of_eq (sym K.is))
+  rounded-pos = grind (arith, mul-pos, pow_pos, K)
 
   -- x by its significand, and its pattern
   at : HasValue x (is_neg z) (K.c * w) (2 ^ 1074)
-  at =
-      let e = signed_same (is_neg z) v.sign (roundℕ 53 n) v.count rounded-pos (sym (roundℤ-own 53 z (omega arith)) ∙ v.is) in
-      subst (λ (m : ℕ). HasValue x (is_neg z) m (2 ^ 1074)) (sym e.1 ∙ K.is) (subst (λ (s : Bool). HasValue x s v.count (2 ^ 1074)) (sym e.0) v.has)
+  at = grind (arith, signed_same, rounded-pos, roundℤ-own, K)
 
   bits : to_bits binary64 x ≡ pattern (is_neg z) K.c d
-  bits = pattern-is x (is_neg z) K.c d t at K.least K.most b
+  bits = grind (arith, pattern-is, K, at)
 
   -- the last bit is that of the significand
   last_bit : to_bits binary64 x % 2 ≡ K.c % 2
-  last_bit = ap (λ (m : ℕ). m % 2) bits ∙ pattern-odd (is_neg z) K.c d
+  last_bit = grind (arith, bits, pattern-odd, K)
 
   -- within half a step
   near : Near (K.c * w) n w
-  near = subst (λ (m : ℕ). Near m n w) K.is (round-near 53 n)
+  near = grind (arith, round-near)
 
   -- an odd multiple of the last place
   found : (y : Float) (m : ℕ) → HasValue y (is_neg z) (m * w) (2 ^ 1074) → m % 2 ≡ 1 → n < m * w + w → m * w < n + w → Odd z y
@@ -157,16 +155,13 @@ module _ (x : Float) (z : ℤ) (t : T (fits binary64 x)) (v : Value binary64 x (
 
   -- an odd significand stays
   pub odd-stays : to_bits binary64 x % 2 ≡ 1 → Odd z x
-  odd-stays e = let c = go K.c n w near (pow_pos d) in found x K.c at (sym last_bit ∙ e) c.0 c.1
-    where
-      go : (c n w : ℕ) → Near (c * w) n w → 0 < w → (n < c * w + w) × (c * w < n + w)
-      go c n w h k = omega arith
+  odd-stays e = grind (arith, K, near, pow_pos, found, at, last_bit)
 
   -- an even one goes up, where it is below z
   pub odd-above : to_bits binary64 x % 2 ≡ 0 → nat_abs (roundℤ 53 z) < n → Odd z (of_bits binary64 (to_bits binary64 x + 1))
   odd-above e l =
-      let l' : K.c * w < n = subst (λ (m : ℕ). m < n) (roundℤ-abs 53 z (omega arith) ∙ K.is) l in
-      let s : suc K.c ≤ 2 ^ 53 = lt_of_mul-lt-mul_right w (le_trans l' (le_of_lt K.upper)) in
+      let l' : K.c * w < n = grind (arith, roundℤ-abs, K) in
+      let s : suc K.c ≤ 2 ^ 53 = grind arith in
       let c = go K.c n w near (pow_pos d) l' in
       found (of_bits binary64 (to_bits binary64 x + 1)) (suc K.c)
       (subst (λ (m : ℕ). HasValue (of_bits binary64 m) (is_neg z) (suc K.c * w) (2 ^ 1074)) (sym (ap (λ (m : ℕ). m + 1) bits ∙ next (is_neg z) K.c d)) (pattern-value (is_neg z) (suc K.c) d (le_trans K.least (le-suc K.c)) s b))
@@ -188,8 +183,8 @@ module _ (x : Float) (z : ℤ) (t : T (fits binary64 x)) (v : Value binary64 x (
   -- and down, where it is above z
   pub odd-below : to_bits binary64 x % 2 ≡ 0 → n < nat_abs (roundℤ 53 z) → Odd z (of_bits binary64 (to_bits binary64 x - 1))
   odd-below e l =
-      let l' : n < K.c * w = subst (λ (m : ℕ). n < m) (roundℤ-abs 53 z (omega arith) ∙ K.is) l in
-      let s : 2 ^ 52 < K.c = lt_of_mul-lt-mul_right w (lt_of_le_of_lt K.lower l') in
+      let l' : n < K.c * w = grind (arith, roundℤ-abs, K) in
+      let s : 2 ^ 52 < K.c = grind arith in
       below K.c refl s l'
     where
       even : (c : ℕ) → suc c % 2 ≡ 0 → c % 2 ≡ 1

@@ -1,5 +1,5 @@
 -- One rounding of the sum of three integers that p digits hold, from two roundings to nearest and one to odd.
-use Rattle.std.proofs.Common.{◌≡◌, ℕ, zero, suc, ◌+◌, ◌-◌, ◌*◌, ◌^◌, ◌<◌, ◌≤◌, ℤ, pos, ◌+ℤ◌, ◌-ℤ◌, ◌*ℤ◌, nat_abs, sym, ap, ◌∙◌, subst, le_trans, le_of_eq, le_refl, lt_of_lt_of_le, lt_of_le_of_lt, lt_of_mul-lt-mul_right, lt_of_not-le, arith, pow_pos, pow_mono}
+use Rattle.std.proofs.Common.{rules, ◌≡◌, ℕ, zero, suc, ◌+◌, ◌-◌, ◌*◌, ◌^◌, ◌<◌, ◌≤◌, ℤ, pos, ◌+ℤ◌, ◌-ℤ◌, ◌*ℤ◌, nat_abs, sym, ap, ◌∙◌, subst, le_trans, le_of_eq, le_refl, lt_of_lt_of_le, lt_of_le_of_lt, lt_of_mul-lt-mul_right, lt_of_not-le, arith, pow_pos, pow_mono}
 use native.Mathlib.Decide.{dec_le}
 use borrow.Author.Differences.{ints}
 use Rattle.pairs.specs.Value.{roundℤ, place, HasDigits}
@@ -13,18 +13,7 @@ use Rattle.pairs.proofs.RoundedOdd.{odd-then-nearest}
 
 -- two multiples of a power of two that are nearer than it are equal
 same-multiple : (x y : ℤ) (e : ℕ) → Multiple x e → Multiple y e → nat_abs (x -ℤ y) < 2 ^ e → x ≡ y
-same-multiple x y e m n h =
-    let d = multiple-sub x y e m n in
-    let a : nat_abs (x -ℤ y) ≡ nat_abs d.0 * 2 ^ e = ap nat_abs d.1 ∙ scale-abs d.0 e in
-    let b : nat_abs d.0 * 2 ^ e < 1 * 2 ^ e = omega arith in
-    equal x y (none (nat_abs (x -ℤ y)) (nat_abs d.0) (2 ^ e) a (lt_of_mul-lt-mul_right (2 ^ e) b))
-  where
-    none : (n q w : ℕ) → n ≡ q * w → q < 1 → n ≡ 0
-    none n zero w e h = omega arith
-    none n (suc q) w e h = absurd (omega arith)
-
-    equal : (x y : ℤ) → nat_abs (x -ℤ y) ≡ 0 → x ≡ y
-    equal x y h = omega (arith, ints)
+same-multiple x y e m n h = search (rules, multiple-sub, scale-abs, lt_of_mul-lt-mul_right, ints)
 
 -- one less is less
 less_one : (e : ℕ) → 1 ≤ e → e - 1 < e
@@ -86,15 +75,12 @@ module _ (p : ℕ) (P : 5 ≤ p) (uh ul c : ℤ) (fu : HasDigits p uh) (fl : Has
         let e = place p (c +ℤ ul) in
         let ev = place p (uh +ℤ th) in
         let q = p + (e - 1) in
-        let a : 2 ^ q ≤ nat_abs th = subst (λ (z : ℤ). 2 ^ q ≤ nat_abs z) (sym et) (round-above p (c +ℤ ul) (e - 1) (omega arith) (place-reach p (c +ℤ ul) (e - 1) (below e ev (lt_of_not-le h)))) in
+        let a : 2 ^ q ≤ nat_abs th = grind (arith, round-above, place-reach) in
         let b : nat_abs th < 2 ^ (p + ev) * 2 = both uh th (2 ^ (p + ev)) (2 ^ (p + place p uh)) (place-bound p uh) (place-bound p (uh +ℤ th)) (pow_mono (mono p (place p uh) ev l)) in
         let d : q < suc (p + ev) = pow-lt-inv q (suc (p + ev)) (lt_of_le_of_lt a (lt_of_lt_of_le b (le_of_eq (sym (double (p + ev)))))) in
         absurd (clash p e ev (lt_of_not-le h) d)
   ]
     where
-      below : (e ev : ℕ) → suc ev < e → e - 1 < e
-      below e ev h = omega arith
-
       mono : (p a b : ℕ) → a < b → p + a ≤ p + b
       mono p a b h = omega arith
 
@@ -108,8 +94,8 @@ module _ (p : ℕ) (P : 5 ≤ p) (uh ul c : ℤ) (fu : HasDigits p uh) (fl : Has
   lost-small : (th vh : ℤ) → th ≡ roundℤ p (c +ℤ ul) → vh ≡ roundℤ p (uh +ℤ th) → place p (c +ℤ ul) ≤ suc (place p (uh +ℤ th)) → nat_abs (c +ℤ ul -ℤ th +ℤ (uh +ℤ th -ℤ vh)) < 2 ^ suc (place p (uh +ℤ th))
   lost-small th vh et ev l =
       let n = place p (uh +ℤ th) in
-      let a : Close th (c +ℤ ul) (2 ^ place p (c +ℤ ul)) = subst (λ (z : ℤ). Close z (c +ℤ ul) (2 ^ place p (c +ℤ ul))) (sym et) (round-close p (c +ℤ ul) (omega arith)) in
-      let b : Close vh (uh +ℤ th) (2 ^ n) = subst (λ (z : ℤ). Close z (uh +ℤ th) (2 ^ n)) (sym ev) (round-close p (uh +ℤ th) (omega arith)) in
+      let a : Close th (c +ℤ ul) (2 ^ place p (c +ℤ ul)) = grind (arith, round-close) in
+      let b : Close vh (uh +ℤ th) (2 ^ n) = grind (arith, round-close) in
       lt_of_lt_of_le (both (c +ℤ ul) th (uh +ℤ th) vh (2 ^ place p (c +ℤ ul)) (2 ^ n) a b (le_trans (pow_mono l) (le_of_eq (double n))) (pow_pos n)) (le_of_eq (sym (double n)))
     where
       both : (s t x v : ℤ) (m n : ℕ) → Close t s m → Close v x n → m ≤ n * 2 → 0 < n → nat_abs (s -ℤ t +ℤ (x -ℤ v)) < n * 2
@@ -131,7 +117,7 @@ module _ (p : ℕ) (P : 5 ≤ p) (uh ul c : ℤ) (fu : HasDigits p uh) (fl : Has
               let mu : Multiple uh n = multiple-down uh (place p uh) n h (digits-place p uh (omega arith) fu) in
               let x : vh ≡ uh +ℤ th = ev ∙ round-wholeℤ p (uh +ℤ th) n (omega arith) (le_refl n) (multiple-add uh th n mu mt) in
               let wt : w ≡ c +ℤ ul -ℤ th = only (c +ℤ ul) th uh vh w ew x in
-              let fw : HasDigits p w = subst (HasDigits p) (sym (wt ∙ ap (λ (z : ℤ). c +ℤ ul -ℤ z) et)) (lost-digits p c ul (omega arith) fc fl) in
+              let fw : HasDigits p w = grind (arith, lost-digits) in
               ap (λ (z : ℤ). roundℤ p (vh +ℤ z)) (odd-held p w r (omega arith) fw o) ∙ ap (roundℤ p) sum
         ]
       ]

@@ -1,9 +1,8 @@
 -- What a bit pattern stands for, and which pattern a value has, in either format. Assumes nothing.
-use Rattle.std.proofs.Common.{◌≡◌, ℕ, zero, suc, ◌+◌, ◌-◌, ◌*◌, ◌/◌, ◌%◌, ◌^◌, ◌<◌, ◌≤◌, Bool, true, false, cond, T, eqb, ltb, leb, ◌⊎◌, sym, refl, ap, ◌∙◌, subst, inl, inr, le_trans, lt_of_lt_of_le, mul-le-mul_right, mod-lt, mod-eq_of_lt, zero-lt-suc, mul_comm, div-lt_iff_lt-mul, eq-zero-or-pos, eq-or-lt_of_le, mul-pos, div-add-mod', zero-add, mul-div_cancel, arith, pow_pos, pow_mono, pow-add, shl_lt, le-ltb, lt-ltb, eq-eqb, ne_eqb, le-leb}
-use native.Mathlib.Nat.{add-mod_left, pow-succ', mod-mod_of_dvd, dvd-mul_right, div-eq_of_lt-le}
+use Rattle.std.proofs.Common.{◌≡◌, ℕ, zero, suc, ◌+◌, ◌-◌, ◌*◌, ◌/◌, ◌%◌, ◌^◌, ◌<◌, ◌≤◌, Bool, true, false, cond, T, eqb, ltb, leb, ◌⊎◌, sym, refl, ap, ◌∙◌, subst, inl, inr, le_trans, lt_of_lt_of_le, mul-le-mul_right, mod-lt, mod-eq_of_lt, mul_comm, div-lt_iff_lt-mul, eq-zero-or-pos, eq-or-lt_of_le, mul-pos, zero-add, mul-div_cancel, arith, pow_pos, pow_mono, pow-add, shl_lt, le-ltb, lt-ltb, ne_eqb, le-leb}
+use native.Mathlib.Nat.{add-mod_left, pow-succ'}
 use borrow.Author.Tests.{lt-leb}
-use lib.Arith.{digits_div, digits_mod}
-use lib.Ieee.{Float, Format, nan, inf, fin, binary32, binary64, prec, emax, low, hid, ones, top, up, down, size, odd, units, fits, of_fields, of_bits, to_bits}
+use lib.Ieee.{Float, Format, nan, inf, fin, binary32, binary64, prec, emax, low, hid, ones, top, size, odd, units, fits, of_fields, of_bits, to_bits}
 use lib.Ieee.Fits.{two, down_pos, odd-fits}
 use lib.Ieee.Bits.{of_bits-fits, of_bits-to_bits}
 use lib.Ieee.Exact.{HasValue, odd_sign, units_val}
@@ -38,17 +37,10 @@ steps-lt b x h =
 
 -- the exponent field and the fraction of k h + m, for an m with h as its leading digit
 split : (h k m : ℕ) → h ≤ m → m < 2 * h → (h + (k * h + m) % h ≡ m) × ((k * h + m) / h - 1 ≡ k)
-split h k m l u =
-    let r : m - h < h = omega arith in
-    let e : k * h + m ≡ suc k * h + (m - h) = omega arith in
-    let a : (k * h + m) % h ≡ m - h = ap (λ (x : ℕ). x % h) e ∙ digits_mod (suc k) r in
-    let b : (k * h + m) / h ≡ suc k = ap (λ (x : ℕ). x / h) e ∙ digits_div (suc k) r in
-    (ap (λ (x : ℕ). h + x) a ∙ omega arith, ap (λ (x : ℕ). x - 1) b ∙ omega arith)
+split h k m l u = grind arith
 
 steps-normal : (f : Format) (m k : ℕ) → hid f ≤ m → m < 2 * hid f → steps f (k * hid f + m) ≡ m * 2 ^ k
-steps-normal f m k h l =
-    let p = split (hid f) k m h l in
-    steps_high f (k * hid f + m) (omega arith) ∙ (λ i. p.0 i * 2 ^ p.1 i)
+steps-normal f m k h l = grind (arith, split, steps_high)
 
 carried : (h m p : ℕ) → m ≡ 2 * h → h * (2 * p) ≡ m * p
 carried h m p e = omega (arith, ap (λ (x : ℕ). x * p) e)
@@ -67,13 +59,11 @@ bits_of_value : (f : Format) (x : Float) (s : Bool) (n : ℕ) → HasValue x s n
 unfolding to_bits
 bits_of_value f nan s n v = absurd v
 bits_of_value f (inf t) s n v = absurd v
-bits_of_value f (fin t m e) s n v =
-    let q : m * up e * 2 ^ low f / down e ≡ n = ap (λ (k : ℕ). k / down e) v.1 ∙ mul-div_cancel n (down_pos e) in
-    λ i. cond (v.0 i) (top f) 0 + (size (q i) - prec f) * hid f + q i / 2 ^ (size (q i) - prec f)
+bits_of_value f (fin t m e) s n v = grind (arith, mul-div_cancel, down_pos)
 
 -- two values of a format that are the same multiple of its smallest one, with the same sign
 pub same-value : (f : Format) (x y : Float) (s : Bool) (n : ℕ) → T (fits f x) → T (fits f y) → HasValue x s n (2 ^ low f) → HasValue y s n (2 ^ low f) → x ≡ y
-same-value f x y s n X Y v w = sym (of_bits-to_bits f x X) ∙ ap (of_bits f) (bits_of_value f x s n v ∙ sym (bits_of_value f y s n w)) ∙ of_bits-to_bits f y Y
+same-value f x y s n X Y v w = grind (arith, of_bits-to_bits, bits_of_value)
 
 -- the fields of a pattern
 fields : (f : Format) (s : Bool) (x t b : ℕ) → x < ones f → t < hid f → x * hid f + t ≡ b → HasValue (of_fields f s x t) s (steps f b) (2 ^ low f)
@@ -90,15 +80,14 @@ fields f s (suc j) t b X H e =
 
 -- the pattern without its sign is its exponent field and its fraction
 two_fields : (f : Format) (b : ℕ) → b % top f / hid f * hid f + b % hid f ≡ b % top f
-two_fields f b = ap (λ (y : ℕ). b % top f / hid f * hid f + y) (sym (mod-mod_of_dvd (hid f) b (dvd-mul_right (hid f) (suc (ones f))))) ∙ div-add-mod' (b % top f) (hid f)
+two_fields f b = grind arith
 
 pub read : (f : Format) (b : ℕ) → b % top f < ones f * hid f → HasValue (of_bits f b) (leb (top f) b) (steps f (b % top f)) (2 ^ low f)
 unfolding of_bits
-read f b h =
-    fields f (leb (top f) b) (b % top f / hid f) (b % hid f) (b % top f) ((div-lt_iff_lt-mul (pow_pos (prec f - 1))).1 h) (mod-lt b (pow_pos (prec f - 1))) (two_fields f b)
+read f b h = grind (arith, fields, div-lt_iff_lt-mul, pow_pos, mod-lt, two_fields)
 
 pub value : (f : Format) (x : Float) → T (fits f x) → to_bits f x % top f < ones f * hid f → HasValue x (leb (top f) (to_bits f x)) (steps f (to_bits f x % top f)) (2 ^ low f)
-value f x X h = subst (λ (y : Float). HasValue y (leb (top f) (to_bits f x)) (steps f (to_bits f x % top f)) (2 ^ low f)) (of_bits-to_bits f x X) (read f (to_bits f x) h)
+value f x X h = grind (arith, of_bits-to_bits, read)
 
 signed-mod : (s : Bool) (c b : ℕ) → b < c → (cond s c 0 + b) % c ≡ b
 signed-mod true c b h = add-mod_left c b ∙ mod-eq_of_lt h
@@ -121,31 +110,16 @@ read-signed f s b h =
     (subst (λ (t : Bool). HasValue (of_bits f c) t (steps f (c % top f)) (2 ^ low f)) (signed-leb s (top f) b u)
     (read f c (subst (λ (a : ℕ). a < ones f * hid f) (sym p) h)))
 
-at_ones : (f : Format) (s : Bool) (x t : ℕ) → x ≡ ones f → of_fields f s x t ≡ cond (eqb t 0) (inf s) nan
-unfolding of_fields
-at_ones f s zero t e = absurd (omega arith)
-at_ones f s (suc x) t e = ap (λ (b : Bool). cond b (cond (eqb t 0) (inf s) nan) (odd (prec f) s (hid f + t) x (low f))) (eq-eqb (suc x) (ones f) e)
-
 of_bits-ones : (f : Format) (b : ℕ) → b % top f / hid f ≡ ones f → of_bits f b ≡ cond (eqb (b % hid f) 0) (inf (leb (top f) b)) nan
 unfolding of_bits
-of_bits-ones f b e = at_ones f (leb (top f) b) (b % top f / hid f) (b % hid f) e
+of_bits-ones f b e = grind arith
 
 all_ones : (h o b : ℕ) → o * h ≤ b → b < h * suc o → b / h ≡ o
-all_ones h o b l u = div-eq_of_lt-le {k = o} h l (omega (arith, mul_comm o h))
+all_ones h o b l u = grind arith
 
 -- an exponent field of ones
 pub no_number : (f : Format) (x : Float) → T (fits f x) → ones f * hid f ≤ to_bits f x % top f → (x ≡ nan) ⊎ ((s : Bool) × (x ≡ inf s))
-no_number f x X h = go (eqb (to_bits f x % hid f) 0) (sym (of_bits-to_bits f x X) ∙ of_bits-ones f (to_bits f x) e)
-  where
-    l : to_bits f x % top f < top f
-    l = mod-lt (to_bits f x) (mul-pos (pow_pos (prec f - 1)) (zero-lt-suc (ones f)))
-
-    e : to_bits f x % top f / hid f ≡ ones f
-    e = all_ones (hid f) (ones f) (to_bits f x % top f) h l
-
-    go : (z : Bool) → x ≡ cond z (inf (leb (top f) (to_bits f x))) nan → (x ≡ nan) ⊎ ((s : Bool) × (x ≡ inf s))
-    go true q = inr (leb (top f) (to_bits f x), q)
-    go false q = inl q
+no_number f x X h = grind (arith, of_bits-to_bits, of_bits-ones, mod-lt, mul-pos, pow_pos, all_ones)
 
 -- ---- the pattern of a value
 
@@ -158,9 +132,7 @@ below-ones h o m k j u l = omega (arith, mul-le-mul_right h l)
 
 units-fits : (f : Format) (s : Bool) (m k : ℕ) → m ≤ 2 * hid f → m * 2 ^ k < 2 ^ (low f + suc (emax f)) → T (fits f (units f s m k))
 unfolding units
-units-fits f s m k h l =
-    subst (λ (b : Bool). T (fits f (cond b (odd (suc (prec f)) s m k (low f)) (inf s)))) (sym (lt-ltb (m * 2 ^ k) (2 ^ (low f + suc (emax f))) l))
-    (odd-fits f (suc (prec f)) s m k (omega (arith, twice f, pow_pos (prec f), pow-add 2 1 (prec f))) (omega (arith, twice f)) l)
+units-fits f s m k h l = grind (arith, lt-ltb, odd-fits, twice, pow_pos, pow-add)
 
 finite : (f : Format) (s : Bool) (b m k : ℕ) → b < ones f * hid f → m ≤ 2 * hid f → steps f b ≡ m * 2 ^ k → m * 2 ^ k < 2 ^ (low f + suc (emax f)) → of_bits f (cond s (top f) 0 + b) ≡ units f s m k
 finite f s b m k B M e l =
@@ -187,18 +159,10 @@ infinite binary64 true = refl
 infinite binary64 false = refl
 
 pub overflows : (f : Format) (s : Bool) (m k : ℕ) → hid f ≤ m → ones f ≤ k + 1 → units f s m k ≡ inf s
-overflows f s m k h K = too_large f s m k (prec f - 1) h (omega (arith, two f))
+overflows f s m k h K = grind (arith, too_large, two)
 
 packed-finite : (f : Format) (s : Bool) (m k : ℕ) → m ≤ 2 * hid f → (0 < k → hid f ≤ m) → k * hid f + m < ones f * hid f → m * 2 ^ k < 2 ^ (low f + suc (emax f)) → of_bits f (cond s (top f) 0 + (k * hid f + m)) ≡ units f s m k
-packed-finite f s m k h l B u = go (eq-zero-or-pos (hid f - m))
-  where
-    go : (hid f - m ≡ 0) ⊎ (0 < hid f - m) → of_bits f (cond s (top f) 0 + (k * hid f + m)) ≡ units f s m k
-    go (inl g) = finite f s (k * hid f + m) m k B h (steps-packed f m k (omega arith) h) u
-    go (inr g) =
-        let z : k ≡ 0 = elim (eq-zero-or-pos k) [ inl z ↦ z | inr p ↦ absurd (omega (arith, l p)) ] in
-        let v : steps f (k * hid f + m) ≡ m * 2 ^ k =
-        ap (λ (j : ℕ). steps f (j * hid f + m)) z ∙ steps_low f (0 * hid f + m) (omega arith) ∙ omega arith ∙ ap (λ (j : ℕ). m * 2 ^ j) (sym z) in
-        finite f s (k * hid f + m) m k B h v u
+packed-finite f s m k h l B u = grind (arith, finite, steps-packed, steps_low)
 
 -- ±m 2^k of the smallest values: m's top bit, and a carry past it, go into the exponent
 pub packed : (f : Format) (s : Bool) (m k : ℕ) → m ≤ 2 * hid f → (0 < k → hid f ≤ m) → k + 2 ≤ ones f → of_bits f (cond s (top f) 0 + (k * hid f + m)) ≡ units f s m k

@@ -1,7 +1,8 @@
 -- Powers of two: their order, and how one splits.
-use Rattle.std.proofs.Common.{◌≡◌, ℕ, suc, ◌+◌, ◌-◌, ◌*◌, ◌^◌, ◌<◌, ◌≤◌, sym, ap, ◌∙◌, le_of_suc-le-suc, mul_assoc, lt_of_not-le, not-le_of_lt, arith, pow_mono, pow-add}
+use Rattle.std.proofs.Common.{◌≡◌, ℕ, suc, ◌+◌, ◌-◌, ◌*◌, ◌^◌, ◌<◌, ◌≤◌, ap, ◌∙◌, lt_of_not-le, lt_of_lt_of_le, not-le_of_lt, arith, pow_mono, pow-add}
 use lib.Pow.{pow-lt}
-use lib.Ieee.Digits.{back}
+use lib.Ieee.{size}
+use lib.Ieee.Digits.{back, size-lt}
 
 -- one step up doubles
 pub double : (q : ℕ) → 2 ^ suc q ≡ 2 ^ q * 2
@@ -16,12 +17,16 @@ double-next p e = ap (λ (n : ℕ). 2 ^ n) (shift p e) ∙ double (p + e)
 
 -- 2^d taken out of k 2^j
 pub pow-split : (k j d : ℕ) → d ≤ j → k * 2 ^ j ≡ k * 2 ^ (j - d) * 2 ^ d
-pow-split k j d h = ap (λ (x : ℕ). k * 2 ^ x) (sym (back j d h)) ∙ ap (λ (x : ℕ). k * x) (pow-add 2 (j - d) d) ∙ sym (mul_assoc k (2 ^ (j - d)) (2 ^ d))
+pow-split k j d h = grind (arith, back, pow-add)
+
+-- what reaches a power of two has its digits
+pub size-gt : (n j : ℕ) → 2 ^ j ≤ n → j < size n
+size-gt n j h = lt_of_not-le (λ (g : size n ≤ j). not-le_of_lt (lt_of_lt_of_le (size-lt n) (pow_mono g)) h)
 
 -- exponents are in the order of the powers
 pub pow-le-inv : (a b : ℕ) → 2 ^ a ≤ 2 ^ b → a ≤ b
-pow-le-inv a b h = le_of_suc-le-suc (lt_of_not-le (λ (l : suc b ≤ a). not-le_of_lt (pow-lt l) h))
+pow-le-inv a b h = grind (arith, pow-lt)
 
 -- the same, strictly
 pub pow-lt-inv : (a b : ℕ) → 2 ^ a < 2 ^ b → a < b
-pow-lt-inv a b h = lt_of_not-le (λ (l : b ≤ a). not-le_of_lt h (pow_mono l))
+pow-lt-inv a b h = grind (arith, pow_mono)

@@ -1,12 +1,12 @@
 -- The product with its remainder is exact, for factors that are zero or from 2^-400 to 2^400 in size.
-use Rattle.std.proofs.Common.{◌≡◌, ℕ, ◌+◌, ◌-◌, ◌*◌, ◌^◌, ◌<◌, ◌≤◌, T, leb, ℤ, pos, ◌+ℤ◌, ◌-ℤ◌, ◌*ℤ◌, nat_abs, sym, refl, ap, ◌∙◌, subst, inl, inr, mul-le-mul, arith, leb→le, pow-add}
+use Rattle.std.proofs.Common.{rules, ◌≡◌, ℕ, ◌+◌, ◌-◌, ◌*◌, ◌^◌, ◌<◌, ◌≤◌, T, leb, ℤ, pos, ◌+ℤ◌, ◌-ℤ◌, ◌*ℤ◌, nat_abs, sym, refl, ap, ◌∙◌, subst, inl, inr, arith, leb→le, pow-add}
 use borrow.Author.Differences.{ints}
 use lib.IntN.{zero-*ℤ, *ℤ-zero}
 use lib.Ieee.{Float, binary64, fits}
 use lib.Ieee.Fits.{add-fits, mul-fits}
 use Rattle.pairs.specs.Value.{Value, roundℤ, Middle, Moderate, Exactly, UnitsOfProduct, ExactProduct}
 use Rattle.pairs.specs.DoubleDouble.{plus, minus, times, split, exact_mult}
-use Rattle.pairs.proofs.Integers.{Abs, abs-in, abs-mul, nat_abs_mul, distr, mul-assocℤ, mul-right-commℤ, mul-swapℤ, expand, times-one, rejoin, Multiple, scale-add}
+use Rattle.pairs.proofs.Integers.{Abs, abs-mul, distr, mul-assocℤ, mul-right-commℤ, mul-swapℤ, expand, times-one, rejoin, Multiple, scale-add}
 use Rattle.pairs.proofs.Nearest.{Close, digits-stay, digits-zero}
 use Rattle.pairs.proofs.Units.{add-zeros, sub-zeros, zero-times, times_zero}
 use Rattle.pairs.proofs.Scaled.{Scaled, Result, mul-scaled, add-exact, sub-exact, mul-exact}
@@ -45,11 +45,11 @@ module _ (P Q R S W H q : ℤ) (w : W ≡ P *ℤ pos (2 ^ 54) +ℤ (Q +ℤ R) *�
 
 -- a product of significands is at most 2^106
 product-below : (M N : ℤ) → Full M → Full N → Abs (M *ℤ N) (2 ^ 106)
-product-below M N h k = abs-mul M N (2 ^ 53) (2 ^ 53) (abs-in M (2 ^ 53) (omega arith)) (abs-in N (2 ^ 53) (omega arith))
+product-below M N h k = grind arith
 
 -- and at least 2^104
 product-above : (M N : ℤ) → Full M → Full N → 2 ^ 105 ≤ nat_abs (M *ℤ N) * 2
-product-above M N h k = let m : 2 ^ 52 * 2 ^ 52 ≤ nat_abs M * nat_abs N = mul-le-mul h.0 k.0 in omega (arith, nat_abs_mul M N)
+product-above M N h k = grind arith
 
 -- a product of halves has 52 digits
 half_product : (a b : ℤ) → Abs a (2 ^ 26) → Abs b (2 ^ 26) → Abs (a *ℤ b) (2 ^ 52)
@@ -79,7 +79,7 @@ lost-exact x y u v h A L B K W H q i j k vx vy vu vv vh b_a b_l b_b b_k t r w m 
     let b_q : Abs Q (2 ^ 52) = half_product A K b_a b_k in
     let b_r : Abs R (2 ^ 52) = half_product L B b_l b_b in
     let b_s : Abs S (2 ^ 52) = half_product L K b_l b_k in
-    let e_p : A *ℤ pos (2 ^ 27) *ℤ (B *ℤ pos (2 ^ 27)) ≡ P *ℤ pos (2 ^ 54) = mul-swapℤ A (pos (2 ^ 27)) B (pos (2 ^ 27)) in
+    let e_p : A *ℤ pos (2 ^ 27) *ℤ (B *ℤ pos (2 ^ 27)) ≡ P *ℤ pos (2 ^ 54) = grind (arith, mul-swapℤ) in
     let e_q : A *ℤ pos (2 ^ 27) *ℤ K ≡ Q *ℤ pos (2 ^ 27) = mul-right-commℤ A (pos (2 ^ 27)) K in
     let e_r : L *ℤ (B *ℤ pos (2 ^ 27)) ≡ R *ℤ pos (2 ^ 27) = sym (mul-assocℤ L B (pos (2 ^ 27))) in
     let p1 : Scaled binary64 (times x u) (P *ℤ pos (2 ^ 54)) k = subst (λ (z : ℤ). Scaled binary64 (times x u) z k) e_p (mul-exact binary64 x u (A *ℤ pos (2 ^ 27)) (B *ℤ pos (2 ^ 27)) P 54 i j k vx vu t e_p (one_more P b_p) (inside 54 k tt r)) in
@@ -133,15 +133,11 @@ product_at a b M N i j k va vb h_m h_n ri rj t r =
 
 -- where each product of halves is 0, nothing is lost
 lost-zeros : (x y u v h : Float) → Value binary64 (times x u) (pos 0) → Value binary64 (times x v) (pos 0) → Value binary64 (times y u) (pos 0) → Value binary64 (times y v) (pos 0) → Value binary64 h (pos 0) → Value binary64 (lost x y u v h) (pos 0)
-lost-zeros x y u v h p q r s z =
-    let t1 = sub-zeros binary64 (times x u) h p z in
-    let t2 = add-zeros binary64 (times x v) (minus (times x u) h) q t1 in
-    let t3 = add-zeros binary64 (times y u) (plus (times x v) (minus (times x u) h)) r t2 in
-    add-zeros binary64 (times y v) (plus (times y u) (plus (times x v) (minus (times x u) h))) s t3
+lost-zeros x y u v h p q r s z = search (rules, sub-zeros, add-zeros)
 
 -- two zeros are 0 exactly
 nothing : (h l : Float) → Value binary64 h (pos 0) → Value binary64 l (pos 0) → Exactly (pos 0) h l
-nothing h l v w = record { H = pos 0; L = pos 0; h_is = v; l_is = w; exact = refl; nearest = sym (digits-stay 53 (pos 0) (omega arith) (digits-zero 53 (pos 0) refl)) }
+nothing h l v w = grind (arith, digits-stay, digits-zero)
 
 -- with a first factor that is 0
 zero-product : (a b : Float) (Y : ℤ) → T (fits binary64 b) → Value binary64 a (pos 0) → Value binary64 b Y → Middle Y → Exactly (pos 0) (exact_mult a b).hi (exact_mult a b).lo

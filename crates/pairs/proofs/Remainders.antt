@@ -1,11 +1,11 @@
 -- The remainder of a sum, on integers that p digits hold: the code's five further roundings give exactly what the rounding of the sum lost.
-use Rattle.std.proofs.Common.{◌≡◌, ℕ, suc, ◌+◌, ◌*◌, ◌^◌, ◌<◌, ◌≤◌, ℤ, pos, ◌+ℤ◌, ◌-ℤ◌, neg_ℤ, nat_abs, sym, refl, ap, ◌∙◌, subst, le_trans, le_of_eq, lt_of_lt_of_le, le_of_suc-le-suc, le_of_lt, mul-le-mul_right, lt_of_mul-lt-mul_right, lt_of_not-le, arith, pow_mono, pow-add}
+use Rattle.std.proofs.Common.{rules, ◌≡◌, ℕ, suc, ◌+◌, ◌*◌, ◌^◌, ◌<◌, ◌≤◌, ℤ, pos, ◌+ℤ◌, ◌-ℤ◌, neg_ℤ, nat_abs, sym, refl, ap, ◌∙◌, subst, le_trans, le_of_eq, lt_of_lt_of_le, le_of_suc-le-suc, le_of_lt, mul-le-mul_right, lt_of_mul-lt-mul_right, lt_of_not-le, arith, pow_mono, pow-add}
 use native.Mathlib.Decide.{dec_le}
 use borrow.Author.Differences.{ints}
 use lib.IntN.{+ℤ_comm}
 use Rattle.pairs.specs.Value.{roundℤ, place, HasDigits}
 use Rattle.pairs.proofs.Powers.{double, double-next}
-use Rattle.pairs.proofs.Integers.{abs_neg, sub-le-sum, sub-of-sum, Multiple, multiple-down, multiple-add, multiple-sub, scale-abs}
+use Rattle.pairs.proofs.Integers.{abs_neg, sub-of-sum, Multiple, multiple-down, multiple-add, multiple-sub, scale-abs}
 use Rattle.pairs.proofs.Nearest.{Close, place-bound, place-le, place_mono, place-reach, round-place, round-close, round-wholeℤ, round-keepsℤ, round-nearestℤ, round-above, digits-stay, digits-place, digits_of, digits-neg, digits-zero, digits-rounded}
 
 -- ---- p digits hold what the rounding of a sum lost
@@ -35,25 +35,17 @@ lost-by p x y P fx fy h =
 
 -- in either order
 pub lost-digits : (p : ℕ) (x y : ℤ) → 0 < p → HasDigits p x → HasDigits p y → HasDigits p (x +ℤ y -ℤ roundℤ p (x +ℤ y))
-lost-digits p x y P fx fy = elim (dec_le (nat_abs y) (nat_abs x)) [
-  | yes h ↦ lost-by p x y P fx fy h
-  | no h ↦ subst (λ (z : ℤ). HasDigits p (z -ℤ roundℤ p z)) (+ℤ_comm y x) (lost-by p y x P fy fx (le_of_lt (lt_of_not-le h)))
-]
+lost-digits p x y P fx fy = grind (arith, lost-by, +ℤ_comm)
 
 -- ---- with |y| ≤ |x|, p digits hold the rounded sum less x
 
 -- a multiple of 2^e below 2^(p + e) is a whole step below
 step-below : (p : ℕ) (z : ℤ) (e : ℕ) → Multiple z e → nat_abs z < 2 ^ (p + e) → nat_abs z + 2 ^ e ≤ 2 ^ (p + e)
-step-below p z e m h =
-    let a : nat_abs z ≡ nat_abs m.0 * 2 ^ e = ap nat_abs m.1 ∙ scale-abs m.0 e in
-    let b : 2 ^ (p + e) ≡ 2 ^ p * 2 ^ e = pow-add 2 p e in
-    let c : nat_abs m.0 * 2 ^ e < 2 ^ p * 2 ^ e = omega arith in
-    let d : suc (nat_abs m.0) * 2 ^ e ≤ 2 ^ p * 2 ^ e = mul-le-mul_right (2 ^ e) (lt_of_mul-lt-mul_right (2 ^ e) c) in
-    omega arith
+step-below p z e m h = search (rules, scale-abs, pow-add, mul-le-mul_right, lt_of_mul-lt-mul_right)
 
 -- twice a bound is the bound of the next place
 next_place : (p : ℕ) (z : ℤ) (e : ℕ) → nat_abs z < 2 ^ (p + e) * 2 → place p z ≤ suc e
-next_place p z e h = place-le p z (suc e) (lt_of_lt_of_le h (le_of_eq (sym (double-next p e))))
+next_place p z e h = grind (arith, place-le, double-next)
 
 -- a sum is less than twice a bound on its larger term
 sum_less : (x y : ℤ) (n : ℕ) → nat_abs y ≤ nat_abs x → nat_abs x < n → nat_abs (x +ℤ y) < n * 2
@@ -154,25 +146,11 @@ direct p a b P fa fb h =
 module _ (p : ℕ) (a b : ℤ) (P : 0 < p) (fa : HasDigits p a) (fb : HasDigits p b) (h : nat_abs a ≤ nat_abs b) (l : place p a < place p (a +ℤ b)) where
   -- bb is at most twice as far from b as b is from s - a
   apart : (a b s bb : ℤ) → nat_abs (bb -ℤ (s -ℤ a)) ≤ nat_abs (b -ℤ (s -ℤ a)) → nat_abs (b -ℤ bb) ≤ nat_abs (b -ℤ (s -ℤ a)) * 2
-  apart a b s bb y =
-      let e : nat_abs (b -ℤ bb) ≡ nat_abs (b -ℤ (s -ℤ a) -ℤ (bb -ℤ (s -ℤ a))) = ap nat_abs (through b bb (s -ℤ a)) in
-      omega (arith, sub-le-sum (b -ℤ (s -ℤ a)) (bb -ℤ (s -ℤ a)))
-    where
-      through : (b bb w : ℤ) → b -ℤ bb ≡ b -ℤ w -ℤ (bb -ℤ w)
-      through b bb w = omega (arith, ints)
+  apart a b s bb y = omega (arith, ints)
 
   -- b is at most |a| off s - a
   off-a : (a b s : ℤ) → nat_abs (s -ℤ (a +ℤ b)) ≤ nat_abs (b -ℤ (a +ℤ b)) → nat_abs (b -ℤ (s -ℤ a)) ≤ nat_abs a
-  off-a a b s x =
-      let e : nat_abs (s -ℤ (a +ℤ b)) ≡ nat_abs (b -ℤ (s -ℤ a)) = same a b s in
-      let f : nat_abs (b -ℤ (a +ℤ b)) ≡ nat_abs a = less a b in
-      omega arith
-    where
-      same : (a b s : ℤ) → nat_abs (s -ℤ (a +ℤ b)) ≡ nat_abs (b -ℤ (s -ℤ a))
-      same a b s = omega (arith, ints)
-
-      less : (a b : ℤ) → nat_abs (b -ℤ (a +ℤ b)) ≡ nat_abs a
-      less a b = omega (arith, ints)
+  off-a a b s x = omega (arith, ints)
 
   -- and at most half of the last place of the sum
   off-unit : (a b s : ℤ) (u : ℕ) → Close s (a +ℤ b) u → nat_abs (b -ℤ (s -ℤ a)) * 2 ≤ u
@@ -185,8 +163,8 @@ module _ (p : ℕ) (a b : ℤ) (P : 0 < p) (fa : HasDigits p a) (fb : HasDigits 
       let ma : Multiple a ea = digits-place p a P fa in
       let mb : Multiple b (place p b) = digits-place p b P fb in
       let ms : Multiple s ea = subst (λ (z : ℤ). Multiple z ea) (sym es) (multiple-down (roundℤ p (a +ℤ b)) (place p (a +ℤ b)) ea (le_of_lt l) (round-place p (a +ℤ b) P)) in
-      let near1 : nat_abs (s -ℤ (a +ℤ b)) ≤ nat_abs (b -ℤ (a +ℤ b)) = subst (λ (z : ℤ). nat_abs (z -ℤ (a +ℤ b)) ≤ nat_abs (b -ℤ (a +ℤ b))) (sym es) (round-nearestℤ p (a +ℤ b) b P fb) in
-      let near2 : nat_abs (bb -ℤ (s -ℤ a)) ≤ nat_abs (b -ℤ (s -ℤ a)) = subst (λ (z : ℤ). nat_abs (z -ℤ (s -ℤ a)) ≤ nat_abs (b -ℤ (s -ℤ a))) (sym eb) (round-nearestℤ p (s -ℤ a) b P fb) in
+      let near1 : nat_abs (s -ℤ (a +ℤ b)) ≤ nat_abs (b -ℤ (a +ℤ b)) = grind (arith, round-nearestℤ) in
+      let near2 : nat_abs (bb -ℤ (s -ℤ a)) ≤ nat_abs (b -ℤ (s -ℤ a)) = grind (arith, round-nearestℤ) in
       let twice : nat_abs (b -ℤ bb) ≤ nat_abs (b -ℤ (s -ℤ a)) * 2 = apart a b s bb near2 in
       elim (dec_le (place p (s -ℤ a)) ea) [
         | yes x ↦
@@ -200,10 +178,10 @@ module _ (p : ℕ) (a b : ℤ) (P : 0 < p) (fa : HasDigits p a) (fb : HasDigits 
               | no y ↦
                   let eq : place p b ≤ ea = le_of_suc-le-suc (lt_of_not-le y) in
                   let below : nat_abs b < 2 ^ (p + ea) = lt_of_lt_of_le (place-bound p b) (pow_mono (mono p (place p b) ea eq)) in
-                  let top : place p (a +ℤ b) ≤ suc ea = next_place p (a +ℤ b) ea (subst (λ (z : ℤ). nat_abs z < 2 ^ (p + ea) * 2) (+ℤ_comm b a) (sum_less b a (2 ^ (p + ea)) h below)) in
-                  let u : 2 ^ place p (a +ℤ b) ≤ 2 ^ ea * 2 = le_trans (pow_mono top) (le_of_eq (double ea)) in
-                  let c : Close s (a +ℤ b) (2 ^ place p (a +ℤ b)) = subst (λ (z : ℤ). Close z (a +ℤ b) (2 ^ place p (a +ℤ b))) (sym es) (round-close p (a +ℤ b) P) in
-                  let v : 2 ^ ea * 2 ≤ 2 ^ (p + ea) = le_trans (le_of_eq (sym (double ea))) (pow_mono (above p ea P)) in
+                  let top : place p (a +ℤ b) ≤ suc ea = grind (arith, next_place, +ℤ_comm, sum_less) in
+                  let u : 2 ^ place p (a +ℤ b) ≤ 2 ^ ea * 2 = grind arith in
+                  let c : Close s (a +ℤ b) (2 ^ place p (a +ℤ b)) = grind (arith, round-close) in
+                  let v : 2 ^ ea * 2 ≤ 2 ^ (p + ea) = grind (arith, double, pow_mono) in
                   digits_of p (b -ℤ bb) ea (multiple-sub b bb ea (multiple-down b (place p b) ea (place_mono p a b h) mb) (multiple-down bb (suc ea) ea (le-suc ea) mbb))
                   (tight (nat_abs (b -ℤ bb)) (nat_abs (b -ℤ (s -ℤ a))) (2 ^ place p (a +ℤ b)) (2 ^ ea) (2 ^ (p + ea)) twice (off-unit a b s (2 ^ place p (a +ℤ b)) c) u v)
             ]
@@ -211,9 +189,6 @@ module _ (p : ℕ) (a b : ℤ) (P : 0 < p) (fa : HasDigits p a) (fb : HasDigits 
     where
       mono : (p a b : ℕ) → a ≤ b → p + a ≤ p + b
       mono p a b h = omega arith
-
-      above : (p e : ℕ) → 0 < p → suc e ≤ p + e
-      above p e h = omega arith
 
       le-suc : (e : ℕ) → e ≤ suc e
       le-suc e = omega arith

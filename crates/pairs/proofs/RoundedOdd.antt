@@ -1,14 +1,14 @@
 -- Rounding to odd, and that a rounding to nearest after it is as if it were the only one.
-use Rattle.std.proofs.Common.{◌≡◌, ℕ, suc, ◌+◌, ◌-◌, ◌*◌, ◌^◌, ◌<◌, ◌≤◌, ℤ, pos, negsuc, ◌+ℤ◌, ◌-ℤ◌, ◌*ℤ◌, neg_ℤ, nat_abs, sym, ap, ◌∙◌, subst, le_trans, le_of_eq, lt_of_lt_of_le, le_of_suc-le-suc, lt_of_le_of_lt, le_of_lt, mul-le-mul_right, mul_assoc, mul_comm, le_antisymm, lt_of_mul-lt-mul_right, one-mul, lt_of_not-le, not-le_of_lt, arith, pow_pos, pow_mono}
+use Rattle.std.proofs.Common.{◌≡◌, ℕ, suc, ◌+◌, ◌-◌, ◌*◌, ◌^◌, ◌<◌, ◌≤◌, ℤ, pos, negsuc, ◌+ℤ◌, ◌-ℤ◌, ◌*ℤ◌, neg_ℤ, nat_abs, sym, ap, ◌∙◌, subst, le_trans, le_of_eq, lt_of_lt_of_le, le_of_lt, mul-le-mul_right, mul_assoc, mul_comm, lt_of_mul-lt-mul_right, one-mul, arith, pow_pos}
 use borrow.Author.Differences.{up, down, ints}
 use lib.Ieee.{size}
 use lib.Ieee.Digits.{size-lt, size-le, size_reaches}
 use lib.Ieee.Nearest.{closest}
 use Rattle.pairs.specs.Value.{dropped, roundℕ, roundℤ, place}
 use Rattle.pairs.specs.Fused.{RoundedOdd, itself, neighbour}
-use Rattle.pairs.proofs.Powers.{double, pow-split}
+use Rattle.pairs.proofs.Powers.{double, size-gt, pow-split}
 use Rattle.pairs.proofs.Integers.{distr, mul-assocℤ, Multiple}
-use Rattle.pairs.proofs.Digits.{Near, closest-near}
+use Rattle.pairs.proofs.Digits.{Near, closest-near, closest-is}
 
 -- ---- between two neighbouring multiples of 2^h all numbers are rounded alike
 
@@ -18,11 +18,11 @@ Inside n c w = (c * w < n) × (n < suc c * w)
 
 -- a multiple of w that is above one such number is above every other
 above-all : (c m n n' w : ℕ) → Inside n c w → Inside n' c w → n ≤ m * w → n' < m * w
-above-all c m n n' w i j h = lt_of_lt_of_le j.1 (mul-le-mul_right w (lt_of_mul-lt-mul_right w (le_trans i.0 h)))
+above-all c m n n' w i j h = grind (arith, mul-le-mul_right, lt_of_mul-lt-mul_right)
 
 -- and one below is below
 below_all : (c m n n' w : ℕ) → Inside n c w → Inside n' c w → m * w ≤ n → m * w < n'
-below_all c m n n' w i j h = lt_of_le_of_lt (mul-le-mul_right w (le_of_suc-le-suc (lt_of_mul-lt-mul_right w (lt_of_le_of_lt h i.1)))) j.0
+below_all c m n n' w i j h = grind (arith, mul-le-mul_right, lt_of_mul-lt-mul_right)
 
 -- 2^h taken out of 2^d
 pow-over : (d h : ℕ) → h ≤ d → 2 ^ d ≡ 2 ^ (d - h) * 2 ^ h
@@ -33,12 +33,6 @@ size-alike : (c n n' h : ℕ) → h ≤ size n → Inside n c (2 ^ h) → Inside
 size-alike c n n' h l i j =
     let e = pow-over (size n) h l in
     size-le n' (size n) (lt_of_lt_of_le (above-all c (2 ^ (size n - h)) n n' (2 ^ h) i j (le_of_lt (lt_of_lt_of_le (size-lt n) (le_of_eq e)))) (le_of_eq (sym e)))
-
--- what is less than half a step from a u is rounded to it
-unique : (a b u n : ℕ) → n * 2 < a * u * 2 + u → a * u * 2 < n * 2 + u → Near (b * u) n u → a ≡ b
-unique a b u n h k l = le_antisymm
-    (le_of_suc-le-suc (lt_of_not-le (λ (x : suc b ≤ a). let m : suc b * u ≤ a * u = mul-le-mul_right u x in omega arith)))
-    (le_of_suc-le-suc (lt_of_not-le (λ (x : suc a ≤ b). let m : suc a * u ≤ b * u = mul-le-mul_right u x in omega arith)))
 
 -- n is nearest to r u, and u is an even multiple of w: so n' is nearest to r u too
 same-closest : (r V w u c n n' : ℕ) → u ≡ V * 2 * w → Inside n c w → Inside n' c w → Near (r * u) n u → (n' * 2 < r * u * 2 + u) × (r * u * 2 < n' * 2 + u)
@@ -65,20 +59,16 @@ round-alike p n n' c h l i j =
     let w = 2 ^ h in
     let at : 2 ^ h ≤ n = size_reaches n h (below (size n) p h l) in
     let at' : 2 ^ h ≤ n' = le_trans (le_of_eq (sym (one-mul w))) (le_of_lt (below_all c 1 n n' w i j (le_trans (le_of_eq (one-mul w)) at))) in
-    let sz : size n' ≡ size n = le_antisymm (size-alike c n n' h (reached n h at) i j) (size-alike c n' n h (reached n' h at') j i) in
+    let sz : size n' ≡ size n = grind (arith, size-alike, size-gt) in
     let d = dropped p n in
     let r = closest n (2 ^ d) in
     let V = 2 ^ (d - suc h) in
     let u : 2 ^ d ≡ V * 2 * w = pow-over d (suc h) l ∙ ap (λ (x : ℕ). V * x) (double h ∙ mul_comm w 2) ∙ sym (mul_assoc V 2 w) in
     let k = same-closest r V w (2 ^ d) c n n' u i j (closest-near n (2 ^ d) (pow_pos d)) in
-    let same : r ≡ closest n' (2 ^ d) = unique r (closest n' (2 ^ d)) (2 ^ d) n' k.0 k.1 (closest-near n' (2 ^ d) (pow_pos d)) in
-    ap (λ (x : ℕ). x * 2 ^ d) same ∙ ap (λ (x : ℕ). closest n' (2 ^ (x - p)) * 2 ^ (x - p)) (sym sz)
+    ap (λ (x : ℕ). x * 2 ^ d) (sym (closest-is n' (2 ^ d) r (pow_pos d) (omega arith) (omega arith))) ∙ ap (λ (x : ℕ). closest n' (2 ^ (x - p)) * 2 ^ (x - p)) (sym sz)
   where
     below : (s p h : ℕ) → h < s - p → h < s
     below s p h l = omega arith
-
-    reached : (n h : ℕ) → 2 ^ h ≤ n → h ≤ size n
-    reached n h a = le_of_lt (lt_of_not-le (λ (x : size n ≤ h). not-le_of_lt (lt_of_lt_of_le (size-lt n) (pow_mono x)) a))
 
 -- ---- the same of integers
 

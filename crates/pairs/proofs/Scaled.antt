@@ -1,12 +1,12 @@
 -- Values at a scale: x is z 2^j units. An operation is then a step on the integers z, and the scale stands apart.
 -- What a rounding does at a scale is told by four facts, which do not mention the scale.
-use Rattle.std.proofs.Common.{◌≡◌, ℕ, zero, suc, ◌+◌, ◌-◌, ◌*◌, ◌^◌, ◌<◌, ◌≤◌, T, ℤ, pos, ◌+ℤ◌, ◌-ℤ◌, ◌*ℤ◌, nat_abs, sym, refl, ap, ◌∙◌, subst, le_trans, le_of_eq, lt_of_lt_of_le, lt_of_le_of_lt, add_assoc, mul-le-mul_right, zero-lt-suc, mul-lt-mul_of_pos_right, mul_right_comm, le_of_mul-le-mul_right, arith, pow_pos, pow-add}
+use Rattle.std.proofs.Common.{rules, ◌≡◌, ℕ, zero, suc, ◌+◌, ◌-◌, ◌*◌, ◌^◌, ◌<◌, ◌≤◌, T, ℤ, pos, ◌+ℤ◌, ◌-ℤ◌, ◌*ℤ◌, nat_abs, sym, refl, ap, ◌∙◌, subst, le_trans, le_of_eq, lt_of_lt_of_le, lt_of_le_of_lt, add_assoc, mul-le-mul_right, zero-lt-suc, mul-lt-mul_of_pos_right, mul_right_comm, le_of_mul-le-mul_right, arith, pow_pos, pow-add}
 use borrow.Author.Differences.{up, down, product_is}
 use lib.Ieee.{Float, Format, prec, emax, low, size, add, sub, mul, fits}
 use lib.Ieee.Digits.{size-lt, size-le, size_reaches}
 use Rattle.pairs.specs.Value.{signed, Value, roundℤ}
 use Rattle.pairs.proofs.Powers.{pow-le-inv, pow-lt-inv}
-use Rattle.pairs.proofs.Integers.{Abs, abs-out, abs-in, distr, sub-mul, mul-swapℤ, mul-cancel, signed-abs, Multiple, scale-add, scale-abs}
+use Rattle.pairs.proofs.Integers.{Abs, abs-out, abs-in, distr, sub-mul, mul-swapℤ, mul-cancel, Multiple, scale-add, scale-abs}
 use Rattle.pairs.proofs.Nearest.{Close, round-exactℤ, round-errorℤ, round-multipleℤ, round-keepsℤ}
 use Rattle.pairs.proofs.Units.{prec-pos, InRange, in-range, add-value, sub-value, mul-value, Shape, nothing, something, shape}
 
@@ -24,7 +24,7 @@ pub record Rounded (p : ℕ) (z r : ℤ) : Type 0 where
 
 -- a multiple, with the scale taken off
 cancel-multiple : (r : ℤ) (e j : ℕ) → Multiple (r *ℤ pos (2 ^ j)) (e + j) → Multiple r e
-cancel-multiple r e j m = (m.0, mul-cancel r (m.0 *ℤ pos (2 ^ e)) (2 ^ j) (pow_pos j) (m.1 ∙ scale-add m.0 e j))
+cancel-multiple r e j m = grind (arith, mul-cancel, pow_pos, scale-add)
 
 -- a bound on the error, with the scale taken off
 cancel-close : (r z : ℤ) (u n : ℕ) → 0 < n → Close (r *ℤ pos n) (z *ℤ pos n) (u * n) → Close r z u
@@ -87,11 +87,7 @@ add-scaled f x y a b j e v w h k =
 
 -- the difference at a scale
 pub sub-scaled : (f : Format) (x y : Float) (a b : ℤ) (j e : ℕ) → Scaled f x a j → Scaled f y b j → Abs (a -ℤ b) (2 ^ (prec f + e)) → prec f + (e + j) < low f + suc (emax f) → Result f (sub f x y) (a -ℤ b) j
-sub-scaled f x y a b j e v w h k =
-    let A = a *ℤ pos (2 ^ j) in
-    let B = b *ℤ pos (2 ^ j) in
-    let d : (a -ℤ b) *ℤ pos (2 ^ j) ≡ A -ℤ B = sub-mul a b (pos (2 ^ j)) in
-    result f (sub f x y) (a -ℤ b) (A -ℤ B) j d (sub-value f x y A B v w (inside f (a -ℤ b) (A -ℤ B) e j d h k))
+sub-scaled f x y a b j e v w h k = search (rules, sub-mul, result, sub-value, inside)
 
 -- the product of scales i and j is at the scale i + j - low
 pub mul-scaled : (f : Format) (x y : Float) (a b : ℤ) (i j l e : ℕ) → Scaled f x a i → Scaled f y b j → i + j ≡ l + low f → Abs (a *ℤ b) (2 ^ (prec f + e)) → prec f + (e + l) < low f + suc (emax f) → Result f (mul f x y) (a *ℤ b) l
@@ -105,23 +101,23 @@ mul-scaled f x y a b i j l e v w t h k =
 
 -- k 2^t is bounded
 short-below : (p : ℕ) (z k : ℤ) (t : ℕ) → z ≡ k *ℤ pos (2 ^ t) → Abs k (2 ^ p) → Abs z (2 ^ (p + t))
-short-below p z k t e h = abs-in z (2 ^ (p + t)) (le_trans (le_of_eq (ap nat_abs e ∙ scale-abs k t)) (le_trans (mul-le-mul_right (2 ^ t) (abs-out k (2 ^ p) h)) (le_of_eq (sym (pow-add 2 p t)))))
+short-below p z k t e h = grind (arith, abs-in, scale-abs, mul-le-mul_right, abs-out, pow-add)
 
 -- then the result is the exact one
 unrounded : (f : Format) (x : Float) (z k : ℤ) (t j : ℕ) → Result f x z j → z ≡ k *ℤ pos (2 ^ t) → Abs k (2 ^ prec f) → Scaled f x z j
-unrounded f x z k t j r e h = subst (λ (y : ℤ). Scaled f x y j) (r.rounded.exact k t e h) r.at
+unrounded f x z k t j r e h = grind arith
 
 -- for a sum
 pub add-exact : (f : Format) (x y : Float) (a b k : ℤ) (t j : ℕ) → Scaled f x a j → Scaled f y b j → a +ℤ b ≡ k *ℤ pos (2 ^ t) → Abs k (2 ^ prec f) → prec f + (t + j) < low f + suc (emax f) → Scaled f (add f x y) (a +ℤ b) j
-add-exact f x y a b k t j v w e h l = unrounded f (add f x y) (a +ℤ b) k t j (add-scaled f x y a b j t v w (short-below (prec f) (a +ℤ b) k t e h) l) e h
+add-exact f x y a b k t j v w e h l = search (rules, unrounded, add-scaled, short-below)
 
 -- for a difference
 pub sub-exact : (f : Format) (x y : Float) (a b k : ℤ) (t j : ℕ) → Scaled f x a j → Scaled f y b j → a -ℤ b ≡ k *ℤ pos (2 ^ t) → Abs k (2 ^ prec f) → prec f + (t + j) < low f + suc (emax f) → Scaled f (sub f x y) (a -ℤ b) j
-sub-exact f x y a b k t j v w e h l = unrounded f (sub f x y) (a -ℤ b) k t j (sub-scaled f x y a b j t v w (short-below (prec f) (a -ℤ b) k t e h) l) e h
+sub-exact f x y a b k t j v w e h l = search (rules, unrounded, sub-scaled, short-below)
 
 -- for a product
 pub mul-exact : (f : Format) (x y : Float) (a b k : ℤ) (t i j l : ℕ) → Scaled f x a i → Scaled f y b j → i + j ≡ l + low f → a *ℤ b ≡ k *ℤ pos (2 ^ t) → Abs k (2 ^ prec f) → prec f + (t + l) < low f + suc (emax f) → Scaled f (mul f x y) (a *ℤ b) l
-mul-exact f x y a b k t i j l v w s e h b' = unrounded f (mul f x y) (a *ℤ b) k t l (mul-scaled f x y a b i j l t v w s (short-below (prec f) (a *ℤ b) k t e h) b') e h
+mul-exact f x y a b k t i j l v w s e h b' = search (rules, unrounded, mul-scaled, short-below)
 
 -- ---- a value that is not too small has a scale at which its integer has all p digits
 
@@ -192,11 +188,11 @@ normal f p x z A B P t v a lo hi = go (shape f x z t v)
         let m = suc c.m in
         let q = c.q in
         let short : m < 2 ^ suc p = subst (λ (n : ℕ). m < 2 ^ n) P c.short in
-        let n : nat_abs z ≡ m * 2 ^ q = ap nat_abs c.is ∙ scale-abs (signed c.s m) q ∙ ap (λ (k : ℕ). k * 2 ^ q) (signed-abs c.s m) in
+        let n : nat_abs z ≡ m * 2 ^ q = grind arith in
         let big : A < suc p + q = pow-lt-inv A (suc p + q) (lt_of_le_of_lt lo (lt_of_le_of_lt (le_of_eq n) (lt_of_lt_of_le (mul-lt-mul_of_pos_right short (pow_pos q)) (le_of_eq (sym (pow-add 2 (suc p) q)))))) in
         let d = suc p - size m in
         let h : d ≤ q = room p q (size m) A a big in
         let F = filled p m (zero-lt-suc c.m) short in
         let M = signed c.s m *ℤ pos (2 ^ d) in
-        let N : nat_abs M ≡ m * 2 ^ d = scale-abs (signed c.s m) d ∙ ap (λ (k : ℕ). k * 2 ^ d) (signed-abs c.s m) in
+        let N : nat_abs M ≡ m * 2 ^ d = grind arith in
         normal-at p z M (q - d) A B (c.is ∙ ap (λ (k : ℕ). signed c.s m *ℤ pos (2 ^ k)) (sym (split q d h)) ∙ scale-add (signed c.s m) d (q - d)) (le_trans F.0 (le_of_eq (sym N))) (lt_of_le_of_lt (le_of_eq N) F.1) lo hi

@@ -1,5 +1,5 @@
 -- The sum of two values with its remainder is exact, whichever is larger.
-use Rattle.std.proofs.Common.{ℕ, suc, ◌+◌, ◌^◌, ◌<◌, ◌≤◌, T, ℤ, ◌+ℤ◌, ◌-ℤ◌, nat_abs, sym, refl, ap, ◌∙◌, subst, le_trans, le_of_eq, arith, pow_mono}
+use Rattle.std.proofs.Common.{rules, ℕ, suc, ◌+◌, ◌^◌, ◌<◌, ◌≤◌, T, ℤ, ◌+ℤ◌, ◌-ℤ◌, nat_abs, refl, ap, ◌∙◌, subst, arith, pow_mono}
 use lib.Ieee.{Float, Format, binary64, prec, emax, low, add, sub, fits}
 use lib.Ieee.Fits.{add-fits}
 use Rattle.pairs.specs.Value.{Value, roundℤ, Bounded, Exactly, AddsTo}
@@ -18,22 +18,15 @@ module _ (f : Format) where
 
   -- a sum is at most twice as large as its terms
   add_step : (x y : Float) (X Y : ℤ) (n : ℕ) → Step x X n → Step y Y n → prec f + suc n < low f + suc (emax f) → Step (add f x y) (roundℤ (prec f) (X +ℤ Y)) (suc n)
-  add_step x y X Y n v w b =
-      let h : nat_abs (X +ℤ Y) ≤ 2 ^ (prec f + suc n) = le_trans (sum-le X Y (2 ^ (prec f + n)) v.bound w.bound) (le_of_eq (sym (double-next (prec f) n))) in
-      record { at = add-value f x y X Y v.at w.at (in-range f (X +ℤ Y) (suc n) h b); bound = round-below (prec f) (X +ℤ Y) (suc n) (prec-pos f) h }
+  add_step x y X Y n v w b = search (rules, sum-le, double-next, add-value, in-range, round-below, prec-pos)
 
   -- and so is a difference
   sub-step : (x y : Float) (X Y : ℤ) (n : ℕ) → Step x X n → Step y Y n → prec f + suc n < low f + suc (emax f) → Step (sub f x y) (roundℤ (prec f) (X -ℤ Y)) (suc n)
-  sub-step x y X Y n v w b =
-      let h : nat_abs (X -ℤ Y) ≤ 2 ^ (prec f + suc n) = le_trans (sub-le X Y (2 ^ (prec f + n)) v.bound w.bound) (le_of_eq (sym (double-next (prec f) n))) in
-      record { at = sub-value f x y X Y v.at w.at (in-range f (X -ℤ Y) (suc n) h b); bound = round-below (prec f) (X -ℤ Y) (suc n) (prec-pos f) h }
+  sub-step x y X Y n v w b = search (rules, sub-le, double-next, sub-value, in-range, round-below, prec-pos)
 
   -- a larger bound
   up_step : (x : Float) (X : ℤ) (m n : ℕ) → m ≤ n → Step x X m → Step x X n
-  up_step x X m n h v = record { at = v.at; bound = le_trans v.bound (pow_mono (more (prec f) m n h)) }
-    where
-      more : (p m n : ℕ) → m ≤ n → p + m ≤ p + n
-      more p m n h = omega arith
+  up_step x X m n h v = grind (arith, pow_mono)
 
 -- the six operations in units
 exact-sum : (a b : Float) (X Y : ℤ) → T (fits binary64 a) → T (fits binary64 b) → Value binary64 a X → Value binary64 b Y → nat_abs X ≤ 2 ^ 2090 → nat_abs Y ≤ 2 ^ 2090 → Exactly (X +ℤ Y) (full_exact_add a b).hi (full_exact_add a b).lo
@@ -69,13 +62,13 @@ bounded q a X b v = subst (λ (z : ℤ). nat_abs z ≤ 2 ^ q) (value-unique bina
 
 -- the contract of `from_full_exact_add`
 pub full-exact-add : (a b : Float) → T (fits binary64 a) → T (fits binary64 b) → Bounded 2090 a → Bounded 2090 b → AddsTo a b (full_exact_add a b).hi (full_exact_add a b).lo
-full-exact-add a b ta tb x y X Y va vb = exact-sum a b X Y ta tb va vb (bounded 2090 a X x va) (bounded 2090 b Y y vb)
+full-exact-add a b ta tb x y X Y va vb = search (rules, exact-sum, bounded)
 
 -- the sum and its remainder fit
 pub full-add-fits : (a b : Float) → T (fits binary64 (full_exact_add a b).hi) × T (fits binary64 (full_exact_add a b).lo)
 unfolding full_exact_add
-full-add-fits a b = (add-fits binary64 a b, add-fits binary64 _ _)
+full-add-fits a b = grind (arith, add-fits)
 
 -- a larger bound
 pub widen : (q r : ℕ) (x : Float) → q ≤ r → Bounded q x → Bounded r x
-widen q r x h b = record { units = b.units; is = b.is; small = le_trans b.small (pow_mono h) }
+widen q r x h b = grind (arith, pow_mono)

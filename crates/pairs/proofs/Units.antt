@@ -1,17 +1,17 @@
 -- Values in units of the format's smallest value: each operation is the exact integer, rounded to the format's digits.
-use Rattle.std.proofs.Common.{◌≡◌, ℕ, zero, suc, ◌+◌, ◌-◌, ◌*◌, ◌/◌, ◌%◌, ◌^◌, ◌<◌, ◌≤◌, Bool, true, false, cond, not, ◌&&◌, T, eqb, ltb, leb, ℤ, pos, negsuc, ◌+ℤ◌, ◌-ℤ◌, ◌*ℤ◌, neg_ℤ, nat_abs, sym, refl, ap, ◌∙◌, subst, subst₂, le_trans, le_of_eq, lt_of_le_of_lt, le_of_lt, mul-le-mul_right, mul_assoc, mul_comm, mul-pos, zero-mul, mul-one, mul_right_comm, le_of_mul-le-mul_right, mul-div_cancel, arith, ltb→lt, leb→le, nltb→le, pow_pos, pow-add}
+use Rattle.std.proofs.Common.{rules, ◌≡◌, ℕ, zero, suc, ◌+◌, ◌-◌, ◌*◌, ◌^◌, ◌<◌, ◌≤◌, Bool, true, false, cond, not, T, ltb, ℤ, pos, negsuc, ◌+ℤ◌, ◌-ℤ◌, ◌*ℤ◌, neg_ℤ, nat_abs, sym, refl, ap, ◌∙◌, subst, le_trans, le_of_eq, le_of_lt, mul_assoc, mul-pos, mul-one, mul_right_comm, mul-div_cancel, arith, ltb→lt, nltb→le, pow_pos, pow-add}
 use native.Mathlib.Nat.{mul-mul-mul_comm, eq_of_mul-eq-mul_right}
 use borrow.Author.Differences.{ints}
 use lib.IntN.{zero-*ℤ, *ℤ-zero}
 use lib.Pow.{pow-lt}
-use lib.Ieee.{Float, nan, inf, fin, Format, prec, emax, low, up, down, unlike, size, units, round, sum, add, sub, mul, neg, fits}
+use lib.Ieee.{Float, nan, inf, fin, Format, prec, emax, low, up, down, unlike, round, sum, add, sub, mul, neg, fits}
 use lib.Ieee.Digits.{back}
-use lib.Ieee.Fits.{down_pos, two, two-le_pos, round_is, and_l, and_r}
+use lib.Ieee.Fits.{down_pos, two, two-le_pos, round_is}
 use lib.Ieee.Exact.{HasValue, units_val}
-use lib.Ieee.Nearest.{closest, closest_same}
+use lib.Ieee.Nearest.{closest_same}
 use lib.Ieee.Scale.{round_same}
 use Rattle.std.specs.Float.{float_is_finite}
-use Rattle.pairs.specs.Value.{signed, Value, dropped, roundℕ, roundℤ, HasDigits}
+use Rattle.pairs.specs.Value.{signed, Value, roundℕ, roundℤ, HasDigits}
 use Rattle.pairs.proofs.Powers.{pow-le-inv}
 use Rattle.pairs.proofs.Integers.{nat_abs_mul, mul-cancel, signed-abs, signed-zero, signed-neg, signed_mul, signed-mul-pos}
 use Rattle.pairs.proofs.Nearest.{roundℤ-signed, round-below, digits-stay, digits-zero}
@@ -26,9 +26,7 @@ prec-pos f = two-le_pos (prec f) (two f)
 pub value-unique : (f : Format) (x : Float) (y z : ℤ) → Value f x y → Value f x z → y ≡ z
 value-unique f nan y z v w = absurd v.has
 value-unique f (inf s) y z v w = absurd v.has
-value-unique f (fin s m e) y z v w =
-    let n : v.count ≡ w.count = eq_of_mul-eq-mul_right (down e) (down_pos e) v.count w.count (sym v.has.1 ∙ w.has.1) in
-    v.is ∙ ap (signed v.sign) n ∙ ap (λ (b : Bool). signed b w.count) (sym v.has.0 ∙ w.has.0) ∙ sym w.is
+value-unique f (fin s m e) y z v w = grind (arith, eq_of_mul-eq-mul_right, down_pos)
 
 -- what has a value is finite
 pub value-finite : (f : Format) (x : Float) (z : ℤ) → Value f x z → float_is_finite x ≡ true
@@ -47,12 +45,7 @@ record Parts (f : Format) (m : ℕ) (e : ℤ) : Type 0 where
 -- the tests of `fits`, as facts
 parts : (f : Format) (s : Bool) (m : ℕ) (e : ℤ) → T (fits f (fin s (suc m) e)) → Parts f (suc m) e
 unfolding fits
-parts f s m e t =
-    let a = eqb (suc m % 2) 1 in
-    let b = ltb (suc m) (2 ^ prec f) in
-    let c = leb (down e) (2 ^ low f) in
-    let u = and_l (a && b && c) (ltb (suc m * up e) (2 ^ suc (emax f) * down e)) t in
-    record { short = ltb→lt (suc m) (2 ^ prec f) (and_r a b (and_l (a && b) c u)); fine = leb→le (down e) (2 ^ low f) (and_r (a && b) c u) }
+parts f s m e t = grind arith
 
 -- m 2^e is m 2^q units
 units_of : (f : Format) (s : Bool) (m : ℕ) (e : ℤ) → down e ≤ 2 ^ low f → (q : ℕ) × Value f (fin s m e) (signed s m *ℤ pos (2 ^ q))
@@ -79,10 +72,7 @@ units_of f s m (negsuc k) h =
 
 -- a zero is no units
 zero-units : (f : Format) (s : Bool) (e : ℤ) (z : ℤ) → Value f (fin s 0 e) z → z ≡ pos 0
-zero-units f s e z v = v.is ∙ ap (signed v.sign) (none (up e) (2 ^ low f) v.count (down e) (down_pos e) v.has.1) ∙ signed-zero v.sign
-  where
-    none : (u l n c : ℕ) → 0 < c → 0 * u * l ≡ n * c → n ≡ 0
-    none u l n c C h = eq_of_mul-eq-mul_right c C n 0 (sym h ∙ ap (λ (x : ℕ). x * l) (zero-mul u) ∙ zero-mul l ∙ sym (zero-mul c))
+zero-units f s e z v = grind (arith, down_pos, signed-zero, eq_of_mul-eq-mul_right)
 
 -- another finite value that fits is ±m 2^q units with a short m
 pub record Significand (f : Format) (x : Float) (z : ℤ) : Type 0 where
@@ -123,30 +113,17 @@ InRange f z = nat_abs z < 2 ^ (low f + suc (emax f))
 
 -- a bound on z keeps z rounded in range
 pub in-range : (f : Format) (z : ℤ) (e : ℕ) → nat_abs z ≤ 2 ^ (prec f + e) → prec f + e < low f + suc (emax f) → InRange f (roundℤ (prec f) z)
-in-range f z e h b = lt_of_le_of_lt (round-below (prec f) z e (prec-pos f) h) (pow-lt b)
+in-range f z e h b = grind (arith, round-below, prec-pos, pow-lt)
 
 -- a fraction that is n units is rounded to n rounded
 round-units : (f : Format) (s : Bool) (num den n : ℕ) → 0 < den → num * 2 ^ low f ≡ n * den → roundℕ (prec f) n < 2 ^ (low f + suc (emax f))
     → HasValue (round f s num den) s (roundℕ (prec f) n) (2 ^ low f)
 unfolding roundℕ
-round-units f s num den n D e h =
-    let l = 2 ^ low f in
-    let L : 0 < l = pow_pos (low f) in
-    let k = dropped (prec f) n in
-    let w : n * l / l ≡ n = mul-div_cancel n L in
-    let is : round f s num den ≡ units f s (closest n (2 ^ k)) k =
-    round_same f s num den n l D L e
-    ∙ round_is f s n l
-    ∙ ap (λ (x : ℕ). units f s (closest (n * l) (l * 2 ^ (size x - prec f))) (size x - prec f)) w
-    ∙ ap (λ (x : ℕ). units f s x k) (closest_same (n * l) (l * 2 ^ k) n (2 ^ k) (mul-pos L (pow_pos k)) (pow_pos k) (mul_assoc n l (2 ^ k))) in
-    subst (λ (x : Float). HasValue x s (roundℕ (prec f) n) l) (sym is) (units_val f s (closest n (2 ^ k)) k h)
+round-units f s num den n D e h = grind (arith, pow_pos, mul-div_cancel, round_same, round_is, closest_same, mul-pos, mul_assoc, units_val)
 
 -- the same with a sign
 round-value : (f : Format) (s : Bool) (num den n : ℕ) (z : ℤ) → 0 < den → num * 2 ^ low f ≡ n * den → z ≡ signed s n → InRange f (roundℤ (prec f) z) → Value f (round f s num den) (roundℤ (prec f) z)
-round-value f s num den n z D e q h =
-    let i : roundℤ (prec f) z ≡ signed s (roundℕ (prec f) n) = ap (roundℤ (prec f)) q ∙ roundℤ-signed (prec f) s n (prec-pos f) in
-    let u : roundℕ (prec f) n < 2 ^ (low f + suc (emax f)) = subst (λ (x : ℕ). x < 2 ^ (low f + suc (emax f))) (ap nat_abs i ∙ signed-abs s (roundℕ (prec f) n)) h in
-    record { sign = s; count = roundℕ (prec f) n; is = i; has = round-units f s num den n D e u }
+round-value f s num den n z D e q h = grind (arith, roundℤ-signed, prec-pos, signed-abs, round-units)
 
 -- ---- negation
 
@@ -159,7 +136,7 @@ neg-has f (fin t m e) s n h = (ap not h.0, h.1)
 
 -- the negative is the negative number of units
 neg_value : (f : Format) (x : Float) (z : ℤ) → Value f x z → Value f (neg x) (neg_ℤ z)
-neg_value f x z v = record { sign = not v.sign; count = v.count; is = ap neg_ℤ v.is ∙ signed-neg v.sign v.count; has = neg-has f x v.sign v.count v.has }
+neg_value f x z v = grind (arith, signed-neg, neg-has)
 
 -- ---- the product
 
@@ -194,10 +171,6 @@ mul-value f x y X Y Z v w e u = mul_at f x y v.sign w.sign v.count w.count (nat_
     t : Bool
     t = unlike v.sign w.sign
 
-    unlike-false : (s : Bool) → unlike s false ≡ s
-    unlike-false false = refl
-    unlike-false true = refl
-
     both : signed t (v.count * w.count) ≡ Z *ℤ pos (2 ^ low f)
     both = sym (signed_mul v.sign w.sign v.count w.count) ∙ ap (λ (z : ℤ). z *ℤ signed w.sign w.count) (sym v.is) ∙ ap (λ (z : ℤ). X *ℤ z) (sym w.is) ∙ e
 
@@ -226,11 +199,11 @@ unlike-sum' true a b h = omega (arith, ints)
 
 -- where A / c is a units and B / c is b units, so is the difference
 difference : (A B a b l c : ℕ) → A ≤ B → a ≤ b → A * l ≡ a * c → B * l ≡ b * c → (B - A) * l ≡ (b - a) * c
-difference A B a b l c h k p q = omega (arith, ap (λ (n : ℕ). n * l) (back B A h), ap (λ (n : ℕ). n * c) (back b a k))
+difference A B a b l c h k p q = grind arith
 
 -- and they are in one order
 order : (A B a b l c : ℕ) → 0 < c → A ≤ B → A * l ≡ a * c → B * l ≡ b * c → a ≤ b
-order A B a b l c C h p q = let m : A * l ≤ B * l = mul-le-mul_right l h in let n : a * c ≤ b * c = omega arith in le_of_mul-le-mul_right n C
+order A B a b l c C h p q = grind arith
 
 module _ (f : Format) (A B c a b : ℕ) (C : 0 < c) (p : A * 2 ^ low f ≡ a * c) (q : B * 2 ^ low f ≡ b * c) where
   -- numbers of one sign
@@ -277,34 +250,26 @@ add_at f nan y s t a b h k u = absurd h
 add_at f (inf r) y s t a b h k u = absurd h
 add_at f (fin r m d) nan s t a b h k u = absurd k
 add_at f (fin r m d) (inf r') s t a b h k u = absurd k
-add_at f (fin r m d) (fin r' m' d') s t a b h k u =
-    let l = 2 ^ low f in
-    subst₂ (λ (x y : Bool). Value f (sum f x (m * up d * down d') y (m' * up d' * down d) (down d * down d')) (roundℤ (prec f) (signed s a +ℤ signed t b))) (sym h.0) (sym k.0)
-    (sum-value f (m * up d * down d') (m' * up d' * down d) (down d * down d') a b (mul-pos (down_pos d) (down_pos d'))
-    (mul_right_comm (m * up d) (down d') l ∙ ap (λ (z : ℕ). z * down d') h.1 ∙ mul_assoc a (down d) (down d'))
-    (mul_right_comm (m' * up d') (down d) l ∙ ap (λ (z : ℕ). z * down d) k.1 ∙ mul_assoc b (down d') (down d) ∙ ap (λ (z : ℕ). b * z) (mul_comm (down d') (down d)))
-    s t u)
+add_at f (fin r m d) (fin r' m' d') s t a b h k u = grind (arith, sum-value, mul-pos, down_pos, mul_right_comm)
 
 -- the sum is X + Y rounded
 pub add-value : (f : Format) (x y : Float) (X Y : ℤ) → Value f x X → Value f y Y → InRange f (roundℤ (prec f) (X +ℤ Y)) → Value f (add f x y) (roundℤ (prec f) (X +ℤ Y))
-add-value f x y X Y v w u =
-    let e : X +ℤ Y ≡ signed v.sign v.count +ℤ signed w.sign w.count = ap (λ (z : ℤ). z +ℤ Y) v.is ∙ ap (λ (z : ℤ). signed v.sign v.count +ℤ z) w.is in
-    subst (λ (z : ℤ). Value f (add f x y) (roundℤ (prec f) z)) (sym e) (add_at f x y v.sign w.sign v.count w.count v.has w.has (subst (λ (z : ℤ). InRange f (roundℤ (prec f) z)) e u))
+add-value f x y X Y v w u = grind (arith, add_at)
 
 -- and the difference X - Y rounded
 pub sub-value : (f : Format) (x y : Float) (X Y : ℤ) → Value f x X → Value f y Y → InRange f (roundℤ (prec f) (X -ℤ Y)) → Value f (sub f x y) (roundℤ (prec f) (X -ℤ Y))
 unfolding sub
-sub-value f x y X Y v w u = add-value f x (neg y) X (neg_ℤ Y) v (neg_value f y Y w) u
+sub-value f x y X Y v w u = search (rules, add-value, neg_value)
 
 -- ---- zeros
 
 -- no units stay none
 round-none : (f : Format) → roundℤ (prec f) (pos 0) ≡ pos 0
-round-none f = digits-stay (prec f) (pos 0) (prec-pos f) (digits-zero (prec f) (pos 0) refl)
+round-none f = grind (arith, digits-stay, prec-pos, digits-zero)
 
 -- and are in range
 none-in-range : (f : Format) → InRange f (roundℤ (prec f) (pos 0))
-none-in-range f = subst (λ (z : ℤ). InRange f z) (sym (round-none f)) (pow_pos (low f + suc (emax f)))
+none-in-range f = grind (arith, round-none, pow_pos)
 
 module _ (f : Format) (x y : Float) where
   pub add-zeros : Value f x (pos 0) → Value f y (pos 0) → Value f (add f x y) (pos 0)

@@ -1,7 +1,8 @@
-// Pairs of doubles. A pair stands for the sum of its parts.
+// Pairs of doubles. A pair stands for the sum of its parts. The names are the reference's.
 //
-// Each operation is given twice where the reference has two branches: by products that are split
-// into halves, and, under a name that ends in `_fma`, by a fused multiply-add that the caller lends.
+// A product is given twice, as the reference has two branches: by halves of the factors, and, under a
+// name that ends in `_fma`, by a fused multiply-add that the caller lends. The two add up their parts
+// in different orders, on which the bits depend. What follows a product is written once.
 ghost use Rattle.std.specs.Prelude.{◌≡◌, Float};
 ghost use Rattle.pairs.specs.DoubleDouble as Pairs;
 ghost use Rattle.pairs.specs.Value.{Moderate, Bounded, Halved, AddsTo, ExactProduct};
@@ -20,7 +21,39 @@ pub trait Fma {
         ensures { result ≡ fused self.now a b c };
 }
 
+// A product of two pairs, by either branch.
+pub trait PairProduct {
+    ghost use Rattle.pairs.specs.declared.double_double.DoubleDouble.{DoubleDouble};
+
+    ghost product: { Self → DoubleDouble → DoubleDouble → DoubleDouble };
+
+    fn quick_mult(&self, a: DoubleDouble, b: DoubleDouble) -> DoubleDouble
+        ensures { result ≡ product self.now a b };
+}
+
+// The product without a fused multiply-add.
+#[derive(Clone, Copy)]
+pub struct Splitting;
+
+impl PairProduct for Splitting {
+    ghost product = { λ _. Pairs.quick_mult };
+
+    fn quick_mult(&self, a: DoubleDouble, b: DoubleDouble) -> DoubleDouble {
+        DoubleDouble::quick_mult(a, b)
+    }
+}
+
+// The product with the fused multiply-add that is lent.
+impl<F: Fma> PairProduct for F {
+    ghost product = { λ fused. Pairs.quick_mult_fma (F.Fma.fused fused) };
+
+    fn quick_mult(&self, a: DoubleDouble, b: DoubleDouble) -> DoubleDouble {
+        DoubleDouble::quick_mult_fma(a, b, self)
+    }
+}
+
 impl DoubleDouble {
+    // `new`, `from_bit_pair` and `add` keep the reference's names, where `From` and `Add` would do.
     pub fn new(lo: f64, hi: f64) -> DoubleDouble
         ensures { result ≡ Pairs.pair lo hi }
     {
@@ -49,6 +82,7 @@ impl DoubleDouble {
     }
 
     // a + b and a remainder, meant for |a| not below |b|.
+    #[tactic(auto, unfolding(crate::specs::DoubleDouble::exact_add))]
     pub fn from_exact_add(a: f64, b: f64) -> DoubleDouble
         ensures { result ≡ Pairs.exact_add a b }
     {
@@ -82,6 +116,7 @@ impl DoubleDouble {
         DoubleDouble::new(asz.lo * bs.lo + t3, r_hi)
     }
 
+    #[tactic(auto, unfolding(crate::specs::DoubleDouble::exact_mult_fma))]
     pub fn from_exact_mult_fma<F: Fma>(a: f64, b: f64, fused: &F) -> DoubleDouble
         ensures { result ≡ Pairs.exact_mult_fma (F.Fma.fused fused.now) a b }
     {
@@ -89,6 +124,7 @@ impl DoubleDouble {
         DoubleDouble::new(fused.fma(a, b, -r_hi), r_hi)
     }
 
+    #[tactic(auto, unfolding(crate::specs::DoubleDouble::add))]
     pub fn add(a: DoubleDouble, b: DoubleDouble) -> DoubleDouble
         ensures { result ≡ Pairs.add a b }
     {
@@ -98,6 +134,7 @@ impl DoubleDouble {
         DoubleDouble::new(l, s)
     }
 
+    #[tactic(auto, unfolding(crate::specs::DoubleDouble::add_f64))]
     pub fn add_f64(a: DoubleDouble, b: f64) -> DoubleDouble
         ensures { result ≡ Pairs.add_f64 a b }
     {
@@ -105,6 +142,7 @@ impl DoubleDouble {
         DoubleDouble::new(a.lo + t.lo, t.hi)
     }
 
+    #[tactic(auto, unfolding(crate::specs::DoubleDouble::quick_mult))]
     pub fn quick_mult(a: DoubleDouble, b: DoubleDouble) -> DoubleDouble
         ensures { result ≡ Pairs.quick_mult a b }
     {
@@ -115,6 +153,7 @@ impl DoubleDouble {
         DoubleDouble::new(c.lo + cl2, c.hi)
     }
 
+    #[tactic(auto, unfolding(crate::specs::DoubleDouble::quick_mult_fma))]
     pub fn quick_mult_fma<F: Fma>(a: DoubleDouble, b: DoubleDouble, fused: &F) -> DoubleDouble
         ensures { result ≡ Pairs.quick_mult_fma (F.Fma.fused fused.now) a b }
     {
@@ -123,6 +162,7 @@ impl DoubleDouble {
         DoubleDouble::new(fused.fma(a.lo, b.hi, t1), r.hi)
     }
 
+    #[tactic(auto, unfolding(crate::specs::DoubleDouble::quick_mult_f64))]
     pub fn quick_mult_f64(a: DoubleDouble, b: f64) -> DoubleDouble
         ensures { result ≡ Pairs.quick_mult_f64 a b }
     {
@@ -131,6 +171,7 @@ impl DoubleDouble {
         DoubleDouble::new(c.lo + cl2, c.hi)
     }
 
+    #[tactic(auto, unfolding(crate::specs::DoubleDouble::quick_mult_f64_fma))]
     pub fn quick_mult_f64_fma<F: Fma>(a: DoubleDouble, b: f64, fused: &F) -> DoubleDouble
         ensures { result ≡ Pairs.quick_mult_f64_fma (F.Fma.fused fused.now) a b }
     {
@@ -139,25 +180,25 @@ impl DoubleDouble {
         DoubleDouble::new(l, h)
     }
 
-    // a b + c, meant for |c.hi| above |a.hi b.hi|.
-    pub fn quick_mul_add(a: DoubleDouble, b: DoubleDouble, c: DoubleDouble) -> DoubleDouble
-        ensures { result ≡ Pairs.plus_product (Pairs.quick_mult a b) c }
+    // A product that is given as a pair plus c, meant for |c.hi| above |product.hi|.
+    #[tactic(auto, unfolding(crate::specs::DoubleDouble::plus_product))]
+    pub fn plus_product(product: DoubleDouble, c: DoubleDouble) -> DoubleDouble
+        ensures { result ≡ Pairs.plus_product product c }
     {
-        let h = DoubleDouble::quick_mult(a, b);
-        let p = DoubleDouble::add_f64(c, h.hi);
-        DoubleDouble::new(h.lo + p.lo, p.hi)
+        let p = DoubleDouble::add_f64(c, product.hi);
+        DoubleDouble::new(product.lo + p.lo, p.hi)
     }
 
-    pub fn quick_mul_add_fma<F: Fma>(
+    // a b + c, meant for |c.hi| above |a.hi b.hi|. The power has its product already, and calls
+    // `plus_product`; this is the reference's function, for other callers.
+    pub fn quick_mul_add<P: PairProduct>(
         a: DoubleDouble,
         b: DoubleDouble,
         c: DoubleDouble,
-        fused: &F,
+        by: &P,
     ) -> DoubleDouble
-        ensures { result ≡ Pairs.plus_product (Pairs.quick_mult_fma (F.Fma.fused fused.now) a b) c }
+        ensures { result ≡ Pairs.plus_product (P.product by.now a b) c }
     {
-        let h = DoubleDouble::quick_mult_fma(a, b, fused);
-        let p = DoubleDouble::add_f64(c, h.hi);
-        DoubleDouble::new(h.lo + p.lo, p.hi)
+        DoubleDouble::plus_product(by.quick_mult(a, b), c)
     }
 }

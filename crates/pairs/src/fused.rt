@@ -18,6 +18,7 @@ pub fn add_odd(a: f64, b: f64) -> f64
     if sum.lo == 0.0 || sum.lo.is_nan() || bits % 2 == 1 {
         return sum.hi;
     }
+    // `next_up` and `next_down` would leave a zero
     let next = if (sum.hi > 0.0) == (sum.lo > 0.0) {
         bits + 1
     } else {
@@ -32,8 +33,9 @@ pub fn fused_sum(a: f64, b: f64, c: f64) -> f64
     ensures value { result ≡ fused_sum a b c }
     ensures exact { Moderate a → Moderate b → Bounded 2000 c → ExactFused a b c result }
 {
-    let plain = a * b + c;
-    if a * b == 0.0 || !plain.is_finite() {
+    let product = a * b;
+    let plain = product + c;
+    if product == 0.0 || !plain.is_finite() {
         // the sign of a zero, and infinities and NaN, are those of the plain sum
         return plain;
     }

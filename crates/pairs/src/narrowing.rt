@@ -1,10 +1,11 @@
-// From f64 to f32, to the nearest, ties to even, on the bit pattern.
+// From f64 to f32, to the nearest, ties to even, on the bit pattern. The library's conversion has this
+// contract; with it and the library's rounding a power took half as long again.
 ghost use Rattle.std.specs.Prelude.{◌≡◌, ◌^◌, ◌<◌, ◌≤◌};
 ghost use Rattle.std.specs.Float.Ieee.Nearest.{closest};
 ghost use Rattle.std.specs.Float.{round_to_format, binary32};
 ghost use Rattle.pairs.specs.Narrowing.{Narrowed};
 
-const SIGN: u64 = 0x8000_0000_0000_0000;
+use crate::bits::{FIELD_ONE_F64, INFINITY_F32, SIGN_F64};
 
 // 2^-126, the smallest normal f32.
 const NORMAL: u64 = 0x3810_0000_0000_0000;
@@ -14,10 +15,6 @@ const OVERFLOW: u64 = 0x47f0_0000_0000_0000;
 
 // 896, by which the biases of the exponent fields differ, in the place of the field.
 const REBIAS: u64 = 0x3800_0000_0000_0000;
-
-const HIDDEN: u64 = 0x0010_0000_0000_0000;
-
-const INFINITY_F32: u32 = 0x7f80_0000;
 
 // t / 2^shift to the nearest whole number, ties to even.
 fn nearest_even(t: u64, shift: u64) -> u64
@@ -41,7 +38,7 @@ fn subnormal_size(size: u64) -> u32
         // below half of 2^-149
         return 0;
     }
-    let significand = HIDDEN + size % HIDDEN;
+    let significand = FIELD_ONE_F64 + size % FIELD_ONE_F64;
     nearest_even(significand, 926 - field) as u32
 }
 
@@ -50,11 +47,11 @@ fn narrow_size(size: u64) -> u32
     requires { size ≤ 0x7ff0_0000_0000_0000 }
     ensures { Narrowed size result }
 {
-    if NORMAL <= size && size < OVERFLOW {
+    if size < NORMAL {
+        subnormal_size(size)
+    } else if size < OVERFLOW {
         // a carry goes into the exponent, up to infinity's
         nearest_even(size - REBIAS, 29) as u32
-    } else if size < NORMAL {
-        subnormal_size(size)
     } else {
         INFINITY_F32
     }
@@ -64,10 +61,10 @@ fn narrow_size(size: u64) -> u32
 pub fn narrow(x: f64) -> f32
     ensures { result ≡ round_to_format binary32 x }
 {
-    if x != x {
-        return 0.0 / 0.0;
+    if x.is_nan() {
+        return f32::NAN;
     }
     let bits = x.to_bits();
     let sign = (bits >> 63 << 31) as u32;
-    f32::from_bits(sign + narrow_size(bits % SIGN))
+    f32::from_bits(sign + narrow_size(bits % SIGN_F64))
 }

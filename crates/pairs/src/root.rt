@@ -1,4 +1,5 @@
-// The square root of an f32, correctly rounded, by integers.
+// The square root of an f32, correctly rounded, by integers. The library's root has this contract
+// and is the processor's; the product has a root of its own.
 //
 // A positive f32 is n 4^j for some j and a whole n of 47 or 48 binary digits. The root of n has 24
 // digits before the point, as many as an f32 keeps, so the result is the whole number nearest to
@@ -7,23 +8,34 @@ ghost use Rattle.std.specs.Prelude.{◌≡◌, ◌*◌, ◌^◌, ◌<◌};
 ghost use Rattle.pairs.specs.Root.{Parts, NearestRoot};
 ghost use Rattle.std.specs.Float.{sqrt, binary32};
 
-// The pattern of infinity. Those below it are the finite values that are not negative.
-const INFINITY: u32 = 0x7f80_0000;
+use crate::bits::{FIELD_ONE_F32, INFINITY_F32};
 
-// One in the exponent field.
-const EXPONENT_ONE: u32 = 0x0080_0000;
+// significand 2^(exponent - 172), with a significand of exactly 24 binary digits.
+#[derive(Clone, Copy)]
+struct Scaled {
+    significand: u32,
+    exponent: u32,
+}
 
-// The f32 of pattern b as m 2^(k - 172), with m of exactly 24 binary digits.
-fn parts(b: u32) -> (u32, u32)
-    requires positive { 0 < b }
-    requires finite { b < 255 * 2 ^ 23 }
-    ensures { Parts b result.0 result.1 }
-{
-    if b < EXPONENT_ONE {
-        let shift = b.leading_zeros() - 8;
-        (b << shift, 23 - shift)
-    } else {
-        (b % EXPONENT_ONE + EXPONENT_ONE, b / EXPONENT_ONE + 22)
+impl Scaled {
+    // The positive f32 of pattern b.
+    fn from_pattern(b: u32) -> Scaled
+        requires positive { 0 < b }
+        requires finite { b < 255 * 2 ^ 23 }
+        ensures { Parts b result.significand result.exponent }
+    {
+        if b < FIELD_ONE_F32 {
+            let shift = b.leading_zeros() - 8;
+            Scaled {
+                significand: b << shift,
+                exponent: 23 - shift,
+            }
+        } else {
+            Scaled {
+                significand: b % FIELD_ONE_F32 + FIELD_ONE_F32,
+                exponent: b / FIELD_ONE_F32 + 22,
+            }
+        }
     }
 }
 
@@ -48,13 +60,16 @@ pub fn sqrtf(x: f32) -> f32
         return x;
     }
     if !(0.0 < x) {
-        return 0.0 / 0.0;
+        return f32::NAN;
     }
     let b = x.to_bits();
-    if b >= INFINITY {
+    if b >= INFINITY_F32 {
         return x;
     }
-    let (m, k) = parts(b);
-    let root = nearest_root(u64::from(m) << (24 - k % 2));
-    f32::from_bits((k + 103) / 2 * EXPONENT_ONE + root as u32)
+    let Scaled {
+        significand,
+        exponent,
+    } = Scaled::from_pattern(b);
+    let root = nearest_root(u64::from(significand) << (24 - exponent % 2));
+    f32::from_bits((exponent + 103) / 2 * FIELD_ONE_F32 + root as u32)
 }

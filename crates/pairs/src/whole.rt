@@ -7,7 +7,10 @@
 ghost use Rattle.std.specs.Prelude.{◌≡◌, ◌==◌, nat_le};
 ghost use Rattle.pairs.specs.Whole.{integerf, odd_integerf};
 
-const EXP_MASK_F32: u32 = 0x7f80_0000;
+use crate::bits::INFINITY_F32;
+
+// The exponent field's bits, all ones, under the reference's name for them.
+const EXP_MASK_F32: u32 = INFINITY_F32;
 
 const UNIT_EXPONENT: u32 = 150;
 

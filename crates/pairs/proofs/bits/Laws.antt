@@ -1,20 +1,21 @@
 -- The bits of an f32 from its leading one to its last, and that its bit pattern says how many. Assumes nothing.
-use Rattle.std.proofs.Common.{◌≡◌, ℕ, zero, suc, ◌+◌, ◌-◌, ◌/◌, ◌%◌, ◌^◌, ◌<◌, ◌≤◌, Bool, true, false, cond, T, eqb, ◌⊎◌, sym, refl, ap, ◌∙◌, subst, inl, inr, lt_of_lt_of_le, le_of_suc-le-suc, mod-lt, div-lt_iff_lt-mul, le_antisymm, pow-suc, lt_of_not-le, le-div_iff_mul-le, not-le_of_lt, arith, pow_pos, pow_mono, pow-add, shr_lt, eqb-true}
+use Rattle.std.proofs.Common.{◌≡◌, ℕ, zero, suc, ◌+◌, ◌-◌, ◌/◌, ◌%◌, ◌^◌, ◌<◌, ◌≤◌, Bool, true, false, cond, T, eqb, ◌⊎◌, sym, refl, ap, ◌∙◌, subst, inl, inr, mod-lt, le-div_iff_mul-le, arith, pow_pos, pow_mono, pow-add, shr_lt, eqb-true}
 use native.Mathlib.Nat.{div-eq_of_lt}
 use lib.Pow.{mod-mod-pow}
 use lib.Bits.{bit_and, bit_or, and_mask, or_shifted_r}
 use lib.Count.{count_leading_zeros, count_trailing_zeros, under, leading_top}
 use lib.Ieee.{Float, nan, inf, binary32, size, odd, fits, of_fields, of_bits, to_bits}
-use lib.Ieee.Digits.{size-lt, size-le}
+use lib.Ieee.Digits.{size-le}
 use lib.Ieee.Bits.{of_bits-to_bits}
 use borrow.Author.Tests.{eqb-false}
 use Rattle.pairs.specs.Bits.{significant_bits}
+use Rattle.pairs.proofs.Powers.{size-gt}
 use Rattle.pairs.proofs.whole.Laws.{cut-odd}
 
 -- ---- digits of a number
 
 half : (c q : ℕ) → q < 2 ^ suc c → q / 2 < 2 ^ c
-half c q h = (div-lt_iff_lt-mul (omega arith)).1 (subst (λ (x : ℕ). q < x) (pow-suc 2 c) h)
+half c q h = omega arith
 
 -- the trailing zeros of a q that c digits hold, and d digits too
 same-trailing : (c d q : ℕ) → 0 < q → q < 2 ^ c → q < 2 ^ d → count_trailing_zeros c q ≡ count_trailing_zeros d q
@@ -28,7 +29,7 @@ same-trailing (suc c) (suc d) q p h k = go (q % 2) refl (λ (r : 0 < q / 2). sam
     go (suc r) e rest = refl
 
 size_exact : (n j : ℕ) → 2 ^ j ≤ n → n < 2 ^ suc j → size n ≡ suc j
-size_exact n j l u = le_antisymm (size-le n (suc j) u) (lt_of_not-le (λ (g : size n ≤ j). not-le_of_lt (lt_of_lt_of_le (size-lt n) (pow_mono g)) l))
+size_exact n j l u = grind (arith, size-le, size-gt)
 
 -- of j + 1 + t digits, with the t lowest cut off, j + 1 are left
 cut-size : (q j t : ℕ) → 2 ^ (j + t) ≤ q → q < 2 ^ (suc j + t) → size (q / 2 ^ t) ≡ suc j
@@ -36,10 +37,7 @@ cut-size q j t l u = size_exact (q / 2 ^ t) j ((le-div_iff_mul-le (pow_pos t)).1
 
 -- a set digit stands no higher than the highest
 set-le : (q j t : ℕ) → q < 2 ^ suc j → q / 2 ^ t % 2 ≡ 1 → t ≤ j
-set-le q j t u o = le_of_suc-le-suc (lt_of_not-le (λ (g : suc j ≤ t).
-    let z : q / 2 ^ t ≡ 0 = div-eq_of_lt (lt_of_lt_of_le u (pow_mono g)) in
-    let c : ◌≡◌ {A = ℕ} 1 0 = sym o ∙ ap (λ (n : ℕ). n % 2) z in
-    omega arith))
+set-le q j t u o = grind (arith, div-eq_of_lt, pow_mono)
 
 -- what a word of 32 bits has between its leading and its trailing zeros
 abbrev pub Counts : ℕ → ℕ → Type 0
@@ -52,8 +50,8 @@ between q p h =
     let top = leading_top 32 q p (omega arith) in
     let j = top.0 in
     let le : t ≤ j = set-le q j t top.3 (cut-odd 24 q p h) in
-    let up : 2 ^ (j - t + t) ≤ q = subst (λ (x : ℕ). 2 ^ x ≤ q) (omega arith) top.2 in
-    let below : q < 2 ^ (suc (j - t) + t) = subst (λ (x : ℕ). q < 2 ^ x) (omega arith) top.3 in
+    let up : 2 ^ (j - t + t) ≤ q = grind arith in
+    let below : q < 2 ^ (suc (j - t) + t) = grind arith in
     let s : size (q / 2 ^ t) ≡ suc (j - t) = cut-size q (j - t) t up below in
     let w : count_leading_zeros 32 q + suc j ≡ 32 = top.1 in
     (omega arith, omega arith)

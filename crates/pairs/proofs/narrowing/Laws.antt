@@ -1,38 +1,20 @@
 -- Narrowing from binary64 to binary32, on the patterns. Assumes nothing.
-use Rattle.std.proofs.Common.{◌≡◌, ℕ, zero, suc, ◌+◌, ◌-◌, ◌*◌, ◌/◌, ◌%◌, ◌^◌, ◌<◌, ◌≤◌, Bool, true, false, cond, not, T, sym, refl, ap, ◌∙◌, subst, inl, inr, lt_of_lt_of_le, mul-le-mul_right, mod-lt, mul_assoc, div-lt_iff_lt-mul, eq-zero-or-pos, eq-or-lt_of_le, mul-lt-mul_of_pos_right, mul-pos, lt_of_not-le, div-add-mod', le-div_iff_mul-le, not-le_of_lt, arith, nltb→le, pow_pos, pow_mono, pow-add, shl_lt, shr_lt}
-use Prim.Native.Nat.compare
+use Rattle.std.proofs.Common.{◌≡◌, ℕ, zero, suc, ◌+◌, ◌-◌, ◌*◌, ◌/◌, ◌%◌, ◌^◌, ◌<◌, ◌≤◌, Bool, true, false, cond, not, T, sym, refl, ap, ◌∙◌, subst, inl, inr, true≢false, lt_of_lt_of_le, mul-le-mul_right, mod-lt, mul_assoc, div-lt_iff_lt-mul, eq-zero-or-pos, eq-or-lt_of_le, mul-lt-mul_of_pos_right, mul-pos, div-add-mod', le-div_iff_mul-le, arith, nltb→le, pow_pos, pow_mono, pow-add, shl_lt, shr_lt}
 use Prim.Native.Nat.{compare, Ordering}
-use lib.Arith.{digits_div, digits_mod, le→nltb}
-use borrow.Author.Tests.{both_ways}
-use lib.Ieee.{Float, Format, nan, inf, fin, binary32, binary64, prec, low, up, down, size, nearest, units, round, div, ne, of_bits, to_bits, fits, is_nan, nan_bits}
+use native.Mathlib.Omega.{compare-lt, compare-eq, compare-gt}
+use lib.Arith.{digits_div, digits_mod}
+use lib.Ieee.{Float, Format, nan, inf, fin, binary32, binary64, prec, low, size, nearest, units, round, of_bits, to_bits, fits, is_nan}
 use lib.Ieee.Bits.{of_bits-to_bits, to_bits-lt, nan_bits_is, nan_bits_above}
-use lib.Ieee.Compare.{differs_from_itself, nan_differs}
-use lib.Ieee.Digits.{size-lt, size-le}
-use lib.Ieee.Fits.{round_is, down_pos, nearest-le}
+use lib.Ieee.Digits.{size-le}
+use lib.Ieee.Fits.{round_is, down_pos}
 use lib.Ieee.Exact.{HasValue}
-use lib.Ieee.Nearest.{closest, closest_same, div_same, nearest-ge}
+use lib.Ieee.Nearest.{closest, closest_same, div_same}
 use lib.Ieee.Scale.{round_same}
 use Rattle.std.specs.Float.{round_to_format}
 use Rattle.pairs.specs.Narrowing.{Narrowed}
+use Rattle.pairs.proofs.Powers.{size-gt}
+use Rattle.pairs.proofs.Digits.{closest-is}
 use Rattle.pairs.proofs.Patterns.{steps, steps_high, steps-lt, read-signed, packed, infinite, overflows}
-
--- ---- what `compare` says
-
-is_lt : (a b : ℕ) → a < b → compare a b ≡ Ordering.lt
-is_lt zero (suc b) h = compare.zero-suc b
-is_lt (suc a) (suc b) h = compare.suc-suc a b ∙ is_lt a b (omega arith)
-is_lt a zero h = absurd (omega arith)
-
-is_eq : (a b : ℕ) → a ≡ b → compare a b ≡ Ordering.eq
-is_eq zero zero h = compare.zero-zero
-is_eq (suc a) (suc b) h = compare.suc-suc a b ∙ is_eq a b (omega arith)
-is_eq zero (suc b) h = absurd (omega arith)
-is_eq (suc a) zero h = absurd (omega arith)
-
-is_gt : (a b : ℕ) → b < a → compare a b ≡ Ordering.gt
-is_gt (suc a) zero h = compare.suc-zero a
-is_gt (suc a) (suc b) h = compare.suc-suc a b ∙ is_gt a b (omega arith)
-is_gt zero b h = absurd (omega arith)
 
 -- ---- the nearest whole number
 
@@ -41,10 +23,7 @@ whole t u q r e l = ap (λ (k : ℕ). k / u) e ∙ digits_div q l
 
 -- t / u is q, and r is left
 at : (t u q r : ℕ) (o : Ordering) → t ≡ q * u + r → r < u → compare (r * 2) u ≡ o → closest t u ≡ nearest q o
-at t u q r o e l c =
-    let d : t / u ≡ q = whole t u q r e l in
-    let m : t % u ≡ r = ap (λ (k : ℕ). k % u) e ∙ digits_mod q l in
-    (λ i. nearest (d i) (compare (m i * 2) u)) ∙ ap (nearest q) c
+at t u q r o e l c = grind (arith, whole, digits_mod)
 
 -- Half the unit less one is added, and one more where q is odd: a carry says to go up.
 module _ (t u h q r : ℕ) (U : u ≡ 2 * h) (e : t ≡ q * u + r) (l : r < u) where
@@ -54,21 +33,18 @@ module _ (t u h q r : ℕ) (U : u ≡ 2 * h) (e : t ≡ q * u + r) (l : r < u) w
   tie (suc (suc p)) x P = absurd (omega arith)
 
   by-half : (p : ℕ) → p ≡ q % 2 → (t + (h - 1) + p) / u ≡ closest t u
-  by-half p P =
-      elim (eq-zero-or-pos (h - r)) [
-        | inr x ↦ whole (t + (h - 1) + p) u q (r + (h - 1) + p) (omega arith) (omega arith) ∙ sym (at t u q r Ordering.lt e l (is_lt (r * 2) u (omega arith)))
-        | inl x ↦
-            elim (eq-zero-or-pos (r - h)) [
-              | inl y ↦ tie p (omega arith) (omega arith) ∙ ap (λ (x : ℕ). q + x) P ∙ sym (at t u q r Ordering.eq e l (is_eq (r * 2) u (omega arith)))
-              | inr y ↦ whole (t + (h - 1) + p) u (suc q) (r + (h - 1) + p - u) (omega arith) (omega arith) ∙ sym (at t u q r Ordering.gt e l (is_gt (r * 2) u (omega arith)))
-            ]
-      ]
+  by-half p P = go (compare (r * 2) u) refl
+    where
+      go : (o : Ordering) → compare (r * 2) u ≡ o → (t + (h - 1) + p) / u ≡ closest t u
+      go Ordering.lt c = let x : r * 2 < u = compare-lt _ _ c in whole (t + (h - 1) + p) u q (r + (h - 1) + p) (omega arith) (omega arith) ∙ sym (at t u q r Ordering.lt e l c)
+      go Ordering.eq c = let x : r * 2 ≡ u = compare-eq _ _ c in tie p (omega arith) (omega arith) ∙ ap (λ (x : ℕ). q + x) P ∙ sym (at t u q r Ordering.eq e l c)
+      go Ordering.gt c = let x : u < r * 2 = compare-gt _ _ c in whole (t + (h - 1) + p) u (suc q) (r + (h - 1) + p - u) (omega arith) (omega arith) ∙ sym (at t u q r Ordering.gt e l c)
 
 power_at : (a b : ℕ) → a ≡ b → 2 ^ a ≡ 2 ^ b
 power_at a b e = ap (λ (k : ℕ). 2 ^ k) e
 
 double : (k : ℕ) → 0 < k → 2 ^ k ≡ 2 * 2 ^ (k - 1)
-double k h = power_at k (1 + (k - 1)) (omega arith) ∙ pow-add 2 1 (k - 1)
+double k h = grind (arith, power_at, pow-add)
 
 pub half-even : (t k : ℕ) → 0 < k → (t + (2 ^ (k - 1) - 1) + t / 2 ^ k % 2) / 2 ^ k ≡ closest t (2 ^ k)
 half-even t k h = by-half t (2 ^ k) (2 ^ (k - 1)) (t / 2 ^ k) (t % 2 ^ k) (double k h) (sym (div-add-mod' t (2 ^ k))) (mod-lt t (pow_pos k)) (t / 2 ^ k % 2) refl
@@ -84,39 +60,26 @@ more c m u U = at (c * 2 * u + m) u (c * 2 + m / u) (m % u) (compare (m % u * 2)
 
 -- less than a half
 small : (n u : ℕ) → n * 2 < u → closest n u ≡ 0
-small n u h = at n u 0 n Ordering.lt (omega arith) (omega arith) (is_lt (n * 2) u h)
+small n u h = closest-is n u 0 (omega arith) (omega arith) (omega arith)
 
 closest-in : (m u : ℕ) → (m / u ≤ closest m u) × (closest m u ≤ m / u + 1)
-closest-in m u = let o = compare (m % u * 2) u in omega (arith, nearest-ge (m / u) o, nearest-le (m / u) o)
+closest-in m u = grind arith
 
 scaled : (m j a b : ℕ) → j + a ≡ b → closest (m * 2 ^ j) (2 ^ b) ≡ closest m (2 ^ a)
-scaled m j a b e =
-    closest_same (m * 2 ^ j) (2 ^ b) m (2 ^ a) (pow_pos b) (pow_pos a)
-    (mul_assoc m (2 ^ j) (2 ^ a) ∙ ap (λ (x : ℕ). m * x) (sym (pow-add 2 j a) ∙ power_at (j + a) b e))
+scaled m j a b e = grind (arith, closest_same, pow_pos, pow-add, power_at)
 
 -- ---- `round` at a fraction whose divisor is a power of two
 
 rounded : (f : Format) (s : Bool) (n l k : ℕ) → size (n / 2 ^ l) - prec f ≡ k → round f s n (2 ^ (low f + l)) ≡ units f s (closest n (2 ^ (l + k))) k
-rounded f s n l k K =
-    let v = n * 2 ^ low f in
-    let u = 2 ^ (low f + l) in
-    let d : v / u ≡ n / 2 ^ l = div_same v u n (2 ^ l) (pow_pos (low f + l)) (pow_pos l) (mul_assoc n (2 ^ low f) (2 ^ l) ∙ ap (λ (x : ℕ). n * x) (sym (pow-add 2 (low f) l))) in
-    let j : size (v / u) - prec f ≡ k = ap (λ (x : ℕ). size x - prec f) d ∙ K in
-    let w : 2 ^ low f * 2 ^ (l + k) ≡ u * 2 ^ k = sym (pow-add 2 (low f) (l + k)) ∙ power_at (low f + (l + k)) (low f + l + k) (omega arith) ∙ pow-add 2 (low f + l) k in
-    let r : closest v (u * 2 ^ k) ≡ closest n (2 ^ (l + k)) =
-    closest_same v (u * 2 ^ k) n (2 ^ (l + k)) (mul-pos (pow_pos (low f + l)) (pow_pos k)) (pow_pos (l + k)) (mul_assoc n (2 ^ low f) (2 ^ (l + k)) ∙ ap (λ (x : ℕ). n * x) w) in
-    round_is f s n u ∙ ap (λ (x : ℕ). units f s (closest v (u * 2 ^ x)) x) j ∙ ap (λ (x : ℕ). units f s x k) r
-
-size-gt : (n j : ℕ) → 2 ^ j ≤ n → j < size n
-size-gt n j h = lt_of_not-le (λ (g : size n ≤ j). not-le_of_lt (lt_of_lt_of_le (size-lt n) (pow_mono g)) h)
+rounded f s n l k K = grind (arith, div_same, pow_pos, mul_assoc, pow-add, power_at, closest_same, mul-pos, round_is)
 
 -- m has a + 1 digits, and p + 1 are left
 sized : (m a j p l : ℕ) → 2 ^ a ≤ m → m < 2 ^ suc a → a + j ≡ p + l → size (m * 2 ^ j / 2 ^ l) ≡ suc p
 sized m a j p l lo hi e =
     let w : 2 ^ a * 2 ^ j ≡ 2 ^ p * 2 ^ l = sym (pow-add 2 a j) ∙ power_at (a + j) (p + l) e ∙ pow-add 2 p l in
     let v : 2 ^ suc a * 2 ^ j ≡ 2 ^ suc p * 2 ^ l = sym (pow-add 2 (suc a) j) ∙ power_at (suc a + j) (suc p + l) (omega arith) ∙ pow-add 2 (suc p) l in
-    let x : p < size (m * 2 ^ j / 2 ^ l) = size-gt (m * 2 ^ j / 2 ^ l) p ((le-div_iff_mul-le (pow_pos l)).1 (subst (λ (z : ℕ). z ≤ m * 2 ^ j) w (mul-le-mul_right (2 ^ j) lo))) in
-    let y : size (m * 2 ^ j / 2 ^ l) ≤ suc p = size-le (m * 2 ^ j / 2 ^ l) (suc p) ((div-lt_iff_lt-mul (pow_pos l)).1 (subst (λ (z : ℕ). m * 2 ^ j < z) v (mul-lt-mul_of_pos_right hi (pow_pos j)))) in
+    let x : p < size (m * 2 ^ j / 2 ^ l) = grind (arith, size-gt, le-div_iff_mul-le, pow_pos, mul-le-mul_right) in
+    let y : size (m * 2 ^ j / 2 ^ l) ≤ suc p = grind (arith, size-le, div-lt_iff_lt-mul, pow_pos, mul-lt-mul_of_pos_right) in
     omega arith
 
 -- from 2^-126 on: 24 of the 53 digits are kept
@@ -141,16 +104,15 @@ of-value : (x : Float) (s : Bool) (a : ℕ) → HasValue x s a (2 ^ 1074) → ro
 unfolding round_to_format
 of-value nan s a v = absurd v
 of-value (inf t) s a v = absurd v
-of-value (fin t m e) s a v = ap (λ (z : Bool). round binary32 z (m * up e) (down e)) v.0 ∙ round_same binary32 s (m * up e) (down e) a (2 ^ 1074) (down_pos e) (pow_pos 1074) v.1
+of-value (fin t m e) s a v = grind (arith, round_same, down_pos, pow_pos)
 
 finite : (s : Bool) (b : ℕ) → b < 2047 * 2 ^ 52 → round_to_format binary32 (of_bits binary64 (cond s (2 ^ 63) 0 + b)) ≡ round binary32 s (steps binary64 b) (2 ^ 1074)
-finite s b h = of-value (of_bits binary64 (cond s (2 ^ 63) 0 + b)) s (steps binary64 b) (read-signed binary64 s b h)
+finite s b h = grind (arith, of-value, read-signed)
 
 -- by its significand m, and j, one less than its exponent field
 with-field : (s : Bool) (b m j : ℕ) → 2 ^ 52 ≤ b → b < 2047 * 2 ^ 52 → 2 ^ 52 + b % 2 ^ 52 ≡ m → b / 2 ^ 52 - 1 ≡ j
     → round_to_format binary32 (of_bits binary64 (cond s (2 ^ 63) 0 + b)) ≡ round binary32 s (m * 2 ^ j) (2 ^ 1074)
-with-field s b m j lo hi M J =
-    finite s b hi ∙ ap (λ (n : ℕ). round binary32 s n (2 ^ 1074)) (steps_high binary64 b lo ∙ (λ i. M i * 2 ^ J i))
+with-field s b m j lo hi M J = grind (arith, finite, steps_high)
 
 -- ---- the four ranges
 
@@ -230,15 +192,11 @@ huge b lo hi = record { bound = omega arith; nearest = λ s. infinite binary32 s
 
 -- ---- a NaN, and what is none
 
-pub nan_is : (x : Float) → ne x x ≡ true → div binary32 (of_bits binary32 0) (of_bits binary32 0) ≡ round_to_format binary32 x
-unfolding round_to_format div of_bits
-nan_is x h = ap (round_to_format binary32) (sym (differs_from_itself x (subst T (sym h) tt)))
-
-pub number : (x : Float) → ne x x ≡ false → T (not (is_nan x))
-unfolding is_nan
-number nan h = absurd (both_ways (ne nan nan) h nan_differs)
-number (inf s) h = tt
-number (fin s m e) h = tt
+pub nan_is : (x : Float) → is_nan x ≡ true → of_bits binary32 0x7fc0_0000 ≡ round_to_format binary32 x
+unfolding round_to_format of_bits is_nan
+nan_is nan h = refl
+nan_is (inf s) h = absurd (true≢false (sym h))
+nan_is (fin s m e) h = absurd (true≢false (sym h))
 
 pub number-bits : (x : Float) → T (fits binary64 x) → T (not (is_nan x)) → to_bits binary64 x % 2 ^ 63 ≤ 2047 * 2 ^ 52
 number-bits x F n =
@@ -249,12 +207,6 @@ number-bits x F n =
 
 sign : (b : ℕ) → b < 2 ^ 64 → (s : Bool) × (b ≡ cond s (2 ^ 63) 0 + b % 2 ^ 63) × (b / 2 ^ 63 * 2 ^ 31 % 2 ^ 64 ≡ cond s (2 ^ 31) 0)
 sign b h = elim (eq-zero-or-pos (b / 2 ^ 63)) [ inl z ↦ (false, omega arith, omega arith) | inr p ↦ (true, omega arith, omega arith) ]
-
-pub placed : (b r : ℕ) → b < 2 ^ 64 → r ≤ 255 * 2 ^ 23 → (b / 2 ^ 63 * 2 ^ 31 % 2 ^ 64 + r < 2 ^ 32) × ((b / 2 ^ 63 * 2 ^ 31 % 2 ^ 64 + r) % 2 ^ 31 ≤ 255 * 2 ^ 23)
-placed b r h l = (omega arith, omega arith)
-
-pub no_nan : (n : ℕ) → n % 2 ^ 31 ≤ 255 * 2 ^ 23 → T (not (nan_bits binary32 n))
-no_nan n h = subst (λ (b : Bool). T (not b)) (sym (nan_bits_above binary32 n)) (le→nltb (255 * 2 ^ 23) (n % 2 ^ 31) h)
 
 pub with-sign : (x : Float) (r : ℕ) → T (fits binary64 x) → Narrowed (to_bits binary64 x % 2 ^ 63) r
     → of_bits binary32 (to_bits binary64 x / 2 ^ 63 * 2 ^ 31 % 2 ^ 64 + r) ≡ round_to_format binary32 x

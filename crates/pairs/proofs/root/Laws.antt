@@ -1,14 +1,13 @@
 -- The root that `sqrt` rounds: where it lies, by whole numbers, and which number it is rounded to. Assumes nothing.
-use Rattle.std.proofs.Common.{◌≡◌, ℕ, zero, suc, ◌+◌, ◌-◌, ◌*◌, ◌/◌, ◌%◌, ◌^◌, ◌<◌, ◌≤◌, Bool, true, false, cond, eqb, leb, sym, refl, ap, ◌∙◌, subst, lt_of_lt_of_le, mul-le-mul_right, mod-lt, mul_assoc, mul_comm, div-lt_iff_lt-mul, mul-le-mul, lt_of_mul-lt-mul_right, mul-lt-mul_of_pos_right, mul-pos, lt_of_not-le, div-add-mod', le-div_iff_mul-le, mul_right_comm, not-le_of_lt, arith, pow_pos, pow_mono, pow-add, eq-eqb, eqb-true, leb-false, leb-true}
-use Prim.Native.Nat.{compare, Ordering}
-use lib.Dec.{is_le, compare_is_eq}
-use borrow.Author.Tests.{eqb-false}
-use lib.Ieee.{Format, prec, low, hid, size, nearest, units, round}
+use Rattle.std.proofs.Common.{◌≡◌, ℕ, zero, suc, ◌+◌, ◌-◌, ◌*◌, ◌/◌, ◌^◌, ◌<◌, ◌≤◌, Bool, true, false, cond, eqb, leb, sym, refl, ap, ◌∙◌, subst, mul-le-mul_right, mul_assoc, mul_comm, div-lt_iff_lt-mul, mul-lt-mul_of_pos_right, mul-pos, le-div_iff_mul-le, mul_right_comm, arith, pow_pos, pow-add, eq-eqb, eqb-true, leb-false, leb-true}
+use lib.Ieee.{Format, prec, low, hid, size, units, round}
 use lib.Ieee.Digits.{size-lt, size-le}
 use lib.Ieee.Fits.{round_is, two}
 use lib.Ieee.Nearest.{closest, closest_same}
 use lib.Ieee.{root_below, root_twice}
 use Rattle.pairs.specs.Root.{NearestRoot}
+use Rattle.pairs.proofs.Powers.{size-gt}
+use Rattle.pairs.proofs.Digits.{closest-is}
 
 -- ---- the whole part of a root
 
@@ -25,32 +24,21 @@ below zero n h = omega arith
 below (suc k) n h = digit (root_below k (n / 4)) n _ (below k (n / 4) (omega arith)) refl
 
 lt-of-squares : (a b : ℕ) → a * a < b * b → a < b
-lt-of-squares a b h = lt_of_not-le (λ (g : b ≤ a). omega (arith, mul-le-mul g g))
+lt-of-squares a b h = grind arith
 
 -- ---- `root_twice n` and 2 h compare as n and h^2
 
 twice-lt : (n h : ℕ) → n < h * h → root_twice n < 2 * h
 unfolding root_twice
-twice-lt n h l = go (root_below (size n) n) (eqb (root_below (size n) n * root_below (size n) n) n) (below (size n) n (size-lt n))
-  where
-    go : (s : ℕ) (b : Bool) → Root s n → 2 * s + cond b 0 1 < 2 * h
-    go s true r = omega (arith, lt-of-squares s h (omega (arith, r.0)))
-    go s false r = omega (arith, lt-of-squares s h (omega (arith, r.0)))
+twice-lt n h l = grind (arith, below, size-lt, lt-of-squares)
 
 twice-le : (n h : ℕ) → h * h ≤ n → 2 * h ≤ root_twice n
 unfolding root_twice
-twice-le n h l = go (root_below (size n) n) (cond (eqb (root_below (size n) n * root_below (size n) n) n) 0 1) (below (size n) n (size-lt n))
-  where
-    go : (s c : ℕ) → Root s n → 2 * h ≤ 2 * s + c
-    go s c r = omega (arith, lt-of-squares h (s + 1) (omega (arith, r.1)))
+twice-le n h l = grind (arith, below, size-lt, lt-of-squares)
 
 twice-gt : (n h : ℕ) → h * h < n → 2 * h < root_twice n
 unfolding root_twice
-twice-gt n h l = go (root_below (size n) n) (eqb (root_below (size n) n * root_below (size n) n) n) (below (size n) n (size-lt n)) (eqb-true _ n)
-  where
-    go : (s : ℕ) (b : Bool) → Root s n → (b ≡ true → s * s ≡ n) → 2 * h < 2 * s + cond b 0 1
-    go s true r e = omega (arith, lt-of-squares h s (omega (arith, e refl)))
-    go s false r e = omega (arith, lt-of-squares h (s + 1) (omega (arith, r.1)))
+twice-gt n h l = grind (arith, below, size-lt, eqb-true, lt-of-squares)
 
 -- and at a square it is 2 h
 pub twice-square : (h : ℕ) → root_twice (h * h) ≡ 2 * h
@@ -69,16 +57,16 @@ module _ (n q w : ℕ) (W : 0 < w) where
   abbrev scaled : ℕ
   scaled = n * (2 * w * (2 * w))
 
-  pub root-from : (a : ℕ) → a * a ≤ n → a * (4 * w) ≤ root_twice scaled
+  root-from : (a : ℕ) → a * a ≤ n → a * (4 * w) ≤ root_twice scaled
   root-from a h = omega (arith, twice-le scaled (a * (2 * w)) (omega (arith, mul-le-mul_right (w * w) h)))
 
-  pub root-upto : (a : ℕ) → n < a * a → root_twice scaled < a * (4 * w)
+  root-upto : (a : ℕ) → n < a * a → root_twice scaled < a * (4 * w)
   root-upto a h = omega (arith, twice-lt scaled (a * (2 * w)) (omega (arith, mul-lt-mul_of_pos_right h (mul-pos W W))))
 
-  pub root-below-half : n ≤ q * q + q → root_twice scaled < q * (4 * w) + 2 * w
+  root-below-half : n ≤ q * q + q → root_twice scaled < q * (4 * w) + 2 * w
   root-below-half h = omega (arith, twice-lt scaled (2 * q * w + w) (omega (arith, mul-le-mul_right (w * w) h, mul-pos W W)))
 
-  pub root-above-half : 0 < q → q * q < n + q → q * (4 * w) < root_twice scaled + 2 * w
+  root-above-half : 0 < q → q * q < n + q → q * (4 * w) < root_twice scaled + 2 * w
   root-above-half Q h = go (q - 1) (omega arith)
     where
       go : (p : ℕ) → q ≡ p + 1 → q * (4 * w) < root_twice scaled + 2 * w
@@ -93,48 +81,13 @@ pub root-at-least : (n q a : ℕ) → NearestRoot n q → a * a ≤ n → a ≤ 
 root-at-least n q a h l = omega (arith, lt-of-squares a (q + 1) (omega (arith, h.below)))
 
 pub root-at-most : (n q a : ℕ) → NearestRoot n q → n < a * a → q ≤ a
-root-at-most n q a h l = omega (arith, lt_of_not-le (λ (g : a + 1 ≤ q). over g))
-  where
-    over : a + 1 ≤ q → ⊥
-    over g =
-        let x : (a + 1) * q ≤ q * q = mul-le-mul_right q g in
-        let y : (a + 1) * a ≤ q * a = mul-le-mul_right a g in
-        omega (arith, h.above)
+root-at-most n q a h l = grind arith
 
 -- ---- rounding
 
-abbrev Compares : Ordering → ℕ → ℕ → Type 0
-Compares Ordering.lt a b = a < b
-Compares Ordering.eq a b = a ≡ b
-Compares Ordering.gt a b = b < a
-
-compares : (a b : ℕ) → Compares (compare a b) a b
-compares a b = go (compare a b) (leb-true a b) (leb-false a b) (eqb-true a b) (eqb-false a b)
-  where
-    go : (o : Ordering) → (is_le o ≡ true → a ≤ b) → (is_le o ≡ false → b < a) → (compare_is_eq o ≡ true → a ≡ b) → (compare_is_eq o ≡ false → a ≡ b → ⊥) → Compares o a b
-    go Ordering.lt h k e n = omega (arith, h refl, n refl)
-    go Ordering.eq h k e n = e refl
-    go Ordering.gt h k e n = k refl
-
--- a fraction that is less than 1/2 off q
-pub closest-is : (a b q : ℕ) → 0 < b → 2 * q * b < 2 * a + b → 2 * a < 2 * q * b + b → closest a b ≡ q
-closest-is a b q B lo hi = go (a / b) (a % b) (compare (a % b * 2) b) (div-add-mod' a b) (mod-lt a B) (compares (a % b * 2) b)
-  where
-    from : (x y : ℕ) → x * b < y * b → x < y
-    from x y h = lt_of_mul-lt-mul_right b h
-
-    go : (w t : ℕ) (o : Ordering) → w * b + t ≡ a → t < b → Compares o (t * 2) b → nearest w o ≡ q
-    go w t Ordering.lt e l c = omega (arith, from q (w + 1) (omega arith), from w (q + 1) (omega arith))
-    go w t Ordering.eq e l c = absurd (omega (arith, from q (w + 1) (omega arith), from w q (omega arith)))
-    go w t Ordering.gt e l c = omega (arith, from q (w + 2) (omega arith), from w q (omega arith))
-
 -- how many digits `round` drops
 dropped : (p n den k : ℕ) → 0 < p → 0 < den → 2 ^ (p - 1 + k) * den ≤ n → n < 2 ^ (p + k) * den → size (n / den) - p ≡ k
-dropped p n den k P D lo hi =
-    let z = size (n / den) in
-    let a : z ≤ p + k = size-le (n / den) (p + k) ((div-lt_iff_lt-mul D).1 hi) in
-    let b : p - 1 + k < z = lt_of_not-le (λ (g : z ≤ p - 1 + k). not-le_of_lt (lt_of_lt_of_le (size-lt (n / den)) (pow_mono g)) ((le-div_iff_mul-le D).1 lo)) in
-    omega arith
+dropped p n den k P D lo hi = grind (arith, size-le, div-lt_iff_lt-mul, size-gt, le-div_iff_mul-le)
 
 -- t / den is less than half a unit off q 2^k of the smallest values, and has all digits that f keeps
 pub round-near : (f : Format) (t den u q k : ℕ) → 0 < den → 0 < u → 2 * u * 2 ^ low f ≡ den * 2 ^ k → hid f * (2 * u) ≤ t → t < 2 * hid f * (2 * u)
@@ -162,7 +115,7 @@ round-near f t den u q k D U e from upto lo hi =
 pub root-rounds : (f : Format) (n q w den k : ℕ) → 0 < w → 0 < den → 4 * w * 2 ^ low f ≡ den * 2 ^ k → hid f * hid f ≤ n → n < 2 * hid f * (2 * hid f) → NearestRoot n q
     → round f false (root_twice (n * (2 * w * (2 * w)))) den ≡ units f false q k
 root-rounds f n q w den k W D e from upto h =
-    let Q : 0 < q = lt_of_lt_of_le (pow_pos (prec f - 1)) (root-at-least n q (hid f) h from) in
+    let Q : 0 < q = grind arith in
     let u : 2 * (2 * w) ≡ 4 * w = omega arith in
     round-near f (root_twice (n * (2 * w * (2 * w)))) den (2 * w) q k D (omega arith) (ap (λ (x : ℕ). x * 2 ^ low f) u ∙ e)
     (subst (λ (x : ℕ). hid f * x ≤ root_twice (n * (2 * w * (2 * w)))) (sym u) (root-from n q w W (hid f) from))

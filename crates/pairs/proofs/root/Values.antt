@@ -1,10 +1,10 @@
 -- The f32 that the root reads and the one that it writes. Assumes nothing.
-use Rattle.std.proofs.Common.{◌≡◌, ℕ, zero, suc, ◌+◌, ◌-◌, ◌*◌, ◌/◌, ◌%◌, ◌^◌, ◌<◌, ◌≤◌, Bool, true, false, not, T, ◌⊎◌, ℤ, pos, negsuc, eqb→eq, sym, refl, ap, ◌∙◌, subst, subst₂, inl, inr, true≢false, mul-le-mul_right, mul_assoc, eq-zero-or-pos, mul-lt-mul_of_pos_right, mul-pos, lt_of_not-le, zero-add, mul_right_comm, mul-div_cancel, arith, pow_pos, pow_mono, pow-add, ltb-false, le-ltb, eq-eqb, ne_eqb, le-leb}
+use Rattle.std.proofs.Common.{◌≡◌, ℕ, zero, suc, ◌+◌, ◌-◌, ◌*◌, ◌/◌, ◌%◌, ◌^◌, ◌<◌, ◌≤◌, Bool, true, false, T, ◌⊎◌, ℤ, pos, negsuc, eqb→eq, sym, refl, ap, ◌∙◌, subst, subst₂, inl, inr, true≢false, mul-le-mul_right, mul_assoc, eq-zero-or-pos, mul-lt-mul_of_pos_right, mul-pos, lt_of_not-le, zero-add, mul_right_comm, mul-div_cancel, arith, pow_pos, pow_mono, pow-add, ltb-false, eq-eqb, ne_eqb, le-leb}
 use native.Mathlib.Nat.{pow-succ', mul-one, one-mul}
 use lib.Count.{count_leading_zeros, leading_top}
 use borrow.Author.Tests.{lt-leb}
-use lib.Ieee.{Float, nan, inf, fin, binary32, up, down, units, round, div, lt, eq, fits, nan_bits, of_bits, to_bits}
-use lib.Ieee.Bits.{of_bits-to_bits, nan_bits_above}
+use lib.Ieee.{Float, nan, inf, fin, binary32, up, down, units, round, lt, eq, fits, of_bits, to_bits}
+use lib.Ieee.Bits.{of_bits-to_bits}
 use lib.Ieee.Exact.{HasValue}
 use lib.Ieee.Fits.{up_pos, down_pos}
 use Rattle.std.specs.Float as Floats
@@ -18,7 +18,7 @@ use Rattle.pairs.proofs.root.Laws.{root-rounds, root-at-least, root-at-most}
 rescaled : (x : Float) (s : Bool) (a : ℕ) → HasValue x s a (2 ^ 149) → HasValue x s (a * 2 ^ 23) (2 ^ 172)
 rescaled nan s a v = v
 rescaled (inf t) s a v = v
-rescaled (fin t m e) s a v = (v.0, sym (mul_assoc (m * up e) (2 ^ 149) (2 ^ 23)) ∙ ap (λ (k : ℕ). k * 2 ^ 23) v.1 ∙ mul_right_comm a (down e) (2 ^ 23))
+rescaled (fin t m e) s a v = grind (arith, mul_right_comm)
 
 of-pattern : (b : ℕ) → b < 255 * 2 ^ 23 → HasValue (of_bits binary32 b) false (steps binary32 b * 2 ^ 23) (2 ^ 172)
 of-pattern b h =
@@ -27,7 +27,7 @@ of-pattern b h =
     (subst₂ (λ (s : Bool) (n : ℕ). HasValue (of_bits binary32 b) s (steps binary32 n) (2 ^ 149)) (lt-leb (2 ^ 31) b (omega arith)) m (read binary32 b (omega arith)))
 
 has_parts : (b m k : ℕ) → b < 255 * 2 ^ 23 → 2 ^ 23 ≤ m → m < 2 ^ 24 → k < 277 → m * 2 ^ k ≡ steps binary32 b * 2 ^ 23 → Parts b m k
-has_parts b m k h lo hi K e = record { from = lo; upto = hi; exponent = K; value = subst (λ (n : ℕ). HasValue (of_bits binary32 b) false n (2 ^ 172)) (sym e) (of-pattern b h) }
+has_parts b m k h lo hi K e = grind (arith, of-pattern)
 
 pub leading-in : (b : ℕ) → 0 < b → b < 2 ^ 23 → (9 ≤ count_leading_zeros 32 b) × (count_leading_zeros 32 b ≤ 31)
 leading-in b p q =
@@ -45,7 +45,7 @@ subnormal b d p q e =
     let top : b < 2 * 2 ^ j = omega (arith, t.3) in
     let hi : b * 2 ^ d < 2 ^ 24 = omega (arith, mul-lt-mul_of_pos_right top (pow_pos d)) in
     let m : (b * 2 ^ d) % 2 ^ 32 ≡ b * 2 ^ d = omega arith in
-    let v : 2 ^ d * 2 ^ (23 - d) ≡ 2 ^ 23 = sym (pow-add 2 d (23 - d)) ∙ ap (λ (k : ℕ). 2 ^ k) {x = d + (23 - d)} {y = 23} (omega arith) in
+    let v : 2 ^ d * 2 ^ (23 - d) ≡ 2 ^ 23 = grind arith in
     has_parts b ((b * 2 ^ d) % 2 ^ 32) (23 - d) (omega arith) (omega arith) (omega arith) (omega arith)
     (ap (λ (k : ℕ). k * 2 ^ (23 - d)) m ∙ mul_assoc b (2 ^ d) (2 ^ (23 - d)) ∙ ap (λ (k : ℕ). b * k) v ∙ ap (λ (k : ℕ). k * 2 ^ 23) (sym (steps_low binary32 b q)))
 
@@ -64,7 +64,7 @@ unfolding of_bits
 zero_is = refl
 
 some : (m : ℕ) (e : ℤ) → 0 < suc m * up e * 1
-some m e = omega (arith, mul-pos {m = suc m} (omega arith) (up_pos e))
+some m e = omega (arith, mul-pos, up_pos)
 
 no_power : (k : ℕ) → 2 * 2 ^ k ≡ 1 → ⊥
 no_power k h = omega arith
@@ -81,49 +81,24 @@ zero_exponent s e t = flat e (eqb→eq (up e * down e) 1 t)
 
 pub of_zero : (x : Float) → T (fits binary32 x) → eq x (of_bits binary32 0) ≡ true → x ≡ sqrt binary32 x
 unfolding eq sqrt
-of_zero x X e = go x X (sym (ap (eq x) zero_is) ∙ e)
-  where
-    go : (y : Float) → T (fits binary32 y) → eq y Floats.float_zero ≡ true → y ≡ sqrt binary32 y
-    go nan X h = refl
-    go (inf s) X h = absurd (true≢false (sym h))
-    go (fin s zero d) X h = ap (fin s 0) (zero_exponent s d X)
-    go (fin true (suc m) d) X h = absurd (true≢false (sym (rw (ne_eqb (suc m * up d * 1) (0 * 1 * down d) (omega (arith, some m d))) at h)))
-    go (fin false (suc m) d) X h = absurd (true≢false (sym (rw (ne_eqb (suc m * up d * 1) (0 * 1 * down d) (omega (arith, some m d))) at h)))
+of_zero x X e = grind (arith, zero_is, zero_exponent, ne_eqb, some)
 
-by_zero : div binary32 (of_bits binary32 0) (of_bits binary32 0) ≡ nan
-unfolding div of_bits
-by_zero = refl
+nan_is : of_bits binary32 0x7fc0_0000 ≡ nan
+unfolding of_bits
+nan_is = refl
 
-pub of_negative : (x : Float) → eq x (of_bits binary32 0) ≡ false → lt (of_bits binary32 0) x ≡ false → div binary32 (of_bits binary32 0) (of_bits binary32 0) ≡ sqrt binary32 x
+pub of_negative : (x : Float) → eq x (of_bits binary32 0) ≡ false → lt (of_bits binary32 0) x ≡ false → of_bits binary32 0x7fc0_0000 ≡ sqrt binary32 x
 unfolding eq lt sqrt
-of_negative x a b = by_zero ∙ go x (sym (ap (eq x) zero_is) ∙ a) (sym (ap (λ (z : Float). lt z x) zero_is) ∙ b)
-  where
-    go : (y : Float) → eq y Floats.float_zero ≡ false → lt Floats.float_zero y ≡ false → nan ≡ sqrt binary32 y
-    go nan h k = refl
-    go (inf true) h k = refl
-    go (inf false) h k = absurd (true≢false k)
-    go (fin true zero d) h k = absurd (true≢false (rw (eq-eqb (0 * up d * 1) (0 * 1 * down d) (omega arith), eq-eqb (0 * up d * 1) 0 (omega arith)) at h))
-    go (fin false zero d) h k = absurd (true≢false (rw (eq-eqb (0 * up d * 1) (0 * 1 * down d) (omega arith)) at h))
-    go (fin true (suc m) d) h k = refl
-    go (fin false (suc m) d) h k = absurd (omega (arith, ltb-false _ _ k, some m d))
+of_negative x a b = grind (arith, nan_is, zero_is, eq-eqb, ltb-false, some)
 
 -- what is above zero has no sign
 no_sign : (x : Float) (n d : ℕ) → lt (of_bits binary32 0) x ≡ true → HasValue x true n d → ⊥
 unfolding lt
-no_sign x n d h = go x (sym (ap (λ (z : Float). lt z x) zero_is) ∙ h)
-  where
-    go : (y : Float) → lt Floats.float_zero y ≡ true → HasValue y true n d → ⊥
-    go nan k v = v
-    go (inf s) k v = v
-    go (fin true m e) k v = true≢false (sym k)
-    go (fin false m e) k v = true≢false (sym v.0)
+no_sign x n d h = grind (arith, zero_is)
 
 pub pattern-pos : (x : Float) → T (fits binary32 x) → lt (of_bits binary32 0) x ≡ true → 0 < to_bits binary32 x
 unfolding lt
-pattern-pos x X h = elim (eq-zero-or-pos (to_bits binary32 x)) [ inl z ↦ absurd (no z) | inr p ↦ p ]
-  where
-    no : to_bits binary32 x ≡ 0 → ⊥
-    no z = true≢false (sym h ∙ ap (lt (of_bits binary32 0)) (sym (of_bits-to_bits binary32 x X) ∙ ap (of_bits binary32) z) ∙ ap (λ (y : Float). lt y y) zero_is)
+pattern-pos x X h = grind (arith, of_bits-to_bits, zero_is)
 
 pub of-infinity : (x : Float) → T (fits binary32 x) → lt (of_bits binary32 0) x ≡ true → 255 * 2 ^ 23 ≤ to_bits binary32 x → x ≡ sqrt binary32 x
 unfolding lt sqrt
@@ -153,7 +128,7 @@ of_positive nan v V h = absurd h
 of_positive (inf s) v V h = absurd h
 of_positive (fin true m e) v V h = absurd (true≢false h.0)
 of_positive (fin false zero e) v V h = absurd (none (up e) v (down e) V (down_pos e) h.1)
-of_positive (fin false (suc m) e) v V h = ap (λ (n : ℕ). round binary32 false (root_twice n) (2 ^ 2272)) (sym (quotient (suc m * up e) (down e) v (down_pos e) h.1))
+of_positive (fin false (suc m) e) v V h = grind (arith, root_twice, quotient, down_pos)
 
 -- ---- the radicand m 2^(24 - k % 2), of 47 or 48 digits
 
@@ -165,7 +140,7 @@ radicand-in m k a b =
     ]
 
 pub shifted : (n m k : ℕ) → n ≡ m → 2 ^ 23 ≤ m → m < 2 ^ 24 → (n * 2 ^ (24 - k % 2)) % 2 ^ 64 ≡ m * 2 ^ (24 - k % 2)
-shifted n m k e a b = omega (arith, radicand-in m k a b, ap (λ (x : ℕ). x * 2 ^ (24 - k % 2)) e)
+shifted n m k e a b = grind (arith, radicand-in)
 
 half-exponent : (k : ℕ) → 24 - k % 2 + ((k + 103) / 2 + 2122 + ((k + 103) / 2 + 2122)) ≡ k + 4370
 half-exponent k = omega arith
@@ -177,13 +152,13 @@ powers m a h k e =
     ∙ sym (mul_assoc m (2 ^ k) (2 ^ 4370))
 
 twice : (j : ℕ) → 2 * 2 ^ (j + 2121) ≡ 2 ^ (j + 2122)
-twice j = sym (pow-add 2 1 (j + 2121)) ∙ ap (λ (n : ℕ). 2 ^ n) {x = 1 + (j + 2121)} {y = j + 2122} (omega arith)
+twice j = omega (arith, pow-add)
 
 regroup : (a y b c : ℕ) → a * (y * b) * c ≡ a * b * c * y
 regroup a y b c = omega arith
 
 unit : (j : ℕ) → 4 * 2 ^ (j + 2121) * 2 ^ 149 ≡ 2 ^ 2272 * 2 ^ j
-unit j = ap (λ (n : ℕ). 4 * n * 2 ^ 149) (pow-add 2 j 2121) ∙ regroup 4 (2 ^ j) (2 ^ 2121) (2 ^ 149)
+unit j = omega (arith, pow-add, regroup)
 
 pub root_is : (x : Float) (m k q : ℕ) → HasValue x false (m * 2 ^ k) (2 ^ 172) → 2 ^ 23 ≤ m → m < 2 ^ 24 → NearestRoot (m * 2 ^ (24 - k % 2)) q
     → units binary32 false q ((k + 103) / 2) ≡ sqrt binary32 x
@@ -191,7 +166,7 @@ root_is x m k q v a b h =
     let j = (k + 103) / 2 in
     let n = m * 2 ^ (24 - k % 2) in
     let i = radicand-in m k a b in
-    let e : n * (2 * 2 ^ (j + 2121) * (2 * 2 ^ (j + 2121))) ≡ m * 2 ^ k * 2 ^ 4370 = ap (λ (t : ℕ). n * (t * t)) (twice j) ∙ powers m (24 - k % 2) (j + 2122) k (half-exponent k) in
+    let e : n * (2 * 2 ^ (j + 2121) * (2 * 2 ^ (j + 2121))) ≡ m * 2 ^ k * 2 ^ 4370 = grind (arith, twice, powers, half-exponent) in
     sym (root-rounds binary32 n q (2 ^ (j + 2121)) (2 ^ 2272) j (pow_pos (j + 2121)) (pow_pos 2272) (unit j) i.0 i.1 h)
     ∙ ap (λ (t : ℕ). round binary32 false (root_twice t) (2 ^ 2272)) e
     ∙ of_positive x (m * 2 ^ k) (mul-pos (omega arith) (pow_pos k)) v
@@ -199,12 +174,7 @@ root_is x m k q v a b h =
 -- ---- the result's pattern
 
 pub root_in : (m k q : ℕ) → 2 ^ 23 ≤ m → m < 2 ^ 24 → NearestRoot (m * 2 ^ (24 - k % 2)) q → (2 ^ 23 ≤ q) × (q ≤ 2 ^ 24)
-root_in m k q a b h = let i = radicand-in m k a b in (root-at-least _ q (2 ^ 23) h i.0, root-at-most _ q (2 ^ 24) h i.1)
-
-pub is_number : (k q : ℕ) → q ≤ 2 ^ 24 → k < 277 → T (not (nan_bits binary32 ((k + 103) / 2 * 2 ^ 23 + q)))
-is_number k q b K =
-    let n = (k + 103) / 2 * 2 ^ 23 + q in
-    subst (λ (t : Bool). T (not t)) (sym (nan_bits_above binary32 n ∙ le-ltb (255 * 2 ^ 23) (n % 2 ^ 31) (omega arith))) tt
+root_in m k q a b h = grind (arith, radicand-in, root-at-least, root-at-most)
 
 pub pattern-is : (k q : ℕ) → 2 ^ 23 ≤ q → q ≤ 2 ^ 24 → k < 277 → of_bits binary32 ((k + 103) / 2 * 2 ^ 23 + q) ≡ units binary32 false q ((k + 103) / 2)
 pattern-is k q a b K = ap (of_bits binary32) (sym (zero-add ((k + 103) / 2 * 2 ^ 23 + q))) ∙ packed binary32 false q ((k + 103) / 2) b (λ _. a) (omega arith)

@@ -1,8 +1,8 @@
 -- Rounding to a whole number, halves away from zero, on the pattern of a double. Assumes nothing.
-use Rattle.std.proofs.Common.{◌≡◌, ℕ, suc, ◌+◌, ◌-◌, ◌*◌, ◌/◌, ◌%◌, ◌^◌, ◌<◌, ◌≤◌, Bool, true, false, cond, T, leb, ◌⊎◌, ℤ, sym, refl, ap, ◌∙◌, subst, inl, inr, lt_of_lt_of_le, mul-le-mul_right, mul_assoc, mul_comm, div-lt_iff_lt-mul, add-mul, eq-zero-or-pos, mul-le-mul_left, le-div_iff_mul-le, mul-one, mul_right_comm, arith, pow_pos, pow_mono, pow-add, shl_lt, leb-false, leb-true}
-use native.Mathlib.Nat.{mul-div-mul_left, mul-div-mul_right, eq_of_mul-eq-mul_right, div-eq_of_lt-le, add-mul-div_right, pow-succ'}
+use Rattle.std.proofs.Common.{◌≡◌, ℕ, suc, ◌+◌, ◌-◌, ◌*◌, ◌/◌, ◌%◌, ◌^◌, ◌<◌, ◌≤◌, Bool, true, false, cond, T, leb, ◌⊎◌, ℤ, sym, refl, ap, ◌∙◌, subst, inl, inr, lt_of_lt_of_le, mul-le-mul_right, mul_assoc, mul_comm, div-lt_iff_lt-mul, add-mul, eq-zero-or-pos, mul-le-mul_left, le-div_iff_mul-le, mul-one, mul_right_comm, arith, pow_pos, pow_mono, pow-add, shl_lt}
+use native.Mathlib.Nat.{mul-div-mul_right, eq_of_mul-eq-mul_right, add-mul-div_right, pow-succ'}
 use lib.Bits.{bit_and, bit_or, and_high, or_shifted}
-use lib.Pow.{shl-shr, shr_mod, field, mod-mod-pow, high, ones_lt, ones_split}
+use lib.Pow.{shl-shr, shr_mod, field, high, ones_lt, ones_split}
 use lib.Ieee.{Float, Format, nan, inf, fin, binary64, up, down, round, fits, of_bits, to_bits}
 use lib.Ieee.Back.{round_whole, whole_unique}
 use lib.Ieee.Bits.{of_bits-fits}
@@ -21,15 +21,13 @@ half-same n d a c D C e =
     sym (mul-div-mul_right (2 * n + d) (2 * d) C) ∙ (λ i. p i / q i) ∙ mul-div-mul_right (2 * a + c) (2 * c) D
 
 half-none : (a p q : ℕ) → p ≡ 2 * q → a < q → ratio_round_half_up a p ≡ 0
-half-none a p q e h = div-eq_of_lt-le {k = 0} (2 * p) (omega arith) (omega arith)
+half-none a p q e h = grind arith
 
 half-one : (a p q : ℕ) → p ≡ 2 * q → q ≤ a → a < p → ratio_round_half_up a p ≡ 1
-half-one a p q e h l = div-eq_of_lt-le {k = 1} (2 * p) (omega arith) (omega arith)
+half-one a p q e h l = grind arith
 
 half-half : (m h : ℕ) → ratio_round_half_up m (2 * h) ≡ (m + h) / (2 * h)
-half-half m h =
-    let p : 2 * m + 2 * h ≡ 2 * (m + h) = omega arith in
-    ap (λ (a : ℕ). a / (2 * (2 * h))) p ∙ mul-div-mul_left (m + h) (2 * h) (omega arith)
+half-half m h = grind arith
 
 away-is : (f : Format) (t : Bool) (m : ℕ) (e : ℤ) → float_round f (fin t m e) ≡ round f t (ratio_round_half_up (m * up e) (down e)) 1
 unfolding round_with
@@ -48,23 +46,18 @@ away-inf f s = refl
 nearest-is : (f : Format) (x y : Float) (s : Bool) (a c n : ℕ) → HasValue x s a c → 0 < c → ratio_round_half_up a c ≡ n → T (fits f y) → HasValue y s n 1 → HasValue (round f s n 1) s n 1 → y ≡ float_round f x
 nearest-is f nan y s a c n v C h Y w r = absurd v
 nearest-is f (inf t) y s a c n v C h Y w r = absurd v
-nearest-is f (fin t m e) y s a c n v C h Y w r =
-    let q : ratio_round_half_up (m * up e) (down e) ≡ n = half-same (m * up e) (down e) a c (down_pos e) C v.1 ∙ h in
-    whole_unique f y (round f s n 1) s n Y (round-fits f s n 1) w r ∙ sym (away-is f t m e ∙ (λ i. round f (v.0 i) (q i) 1))
+nearest-is f (fin t m e) y s a c n v C h Y w r = grind (arith, ratio_round_half_up, half-same, down_pos, whole_unique, round-fits, away-is)
 
 -- n p over p is n
 reduced : (x : Float) (s : Bool) (n p : ℕ) → 0 < p → HasValue x s (n * p) p → HasValue x s n 1
 reduced nan s n p P v = absurd v
 reduced (inf t) s n p P v = absurd v
-reduced (fin t m e) s n p P v =
-    (v.0, eq_of_mul-eq-mul_right p P (m * up e * 1) (n * down e) (ap (λ (a : ℕ). a * p) (mul-one (m * up e)) ∙ v.1 ∙ mul_right_comm n p (down e)))
+reduced (fin t m e) s n p P v = grind (arith, eq_of_mul-eq-mul_right, mul_right_comm)
 
 -- ---- sizes of patterns
 
 steps-lower : (b : ℕ) → b / 2 ^ 52 ≡ 1022 → 2 ^ 1073 ≤ steps binary64 b
-steps-lower b h =
-    let e : steps binary64 b ≡ (2 ^ 52 + b % 2 ^ 52) * 2 ^ 1021 = steps_high binary64 b (omega arith) ∙ ap (λ (a : ℕ). (2 ^ 52 + b % 2 ^ 52) * 2 ^ (a - 1)) h in
-    subst (λ (a : ℕ). 2 ^ 1073 ≤ a) (sym e) (mul-le-mul_right {m = 2 ^ 52} (2 ^ 1021) (omega arith))
+steps-lower b h = grind (arith, steps_high, mul-le-mul_right)
 
 steps-one : steps binary64 0x3ff0_0000_0000_0000 ≡ 1 * 2 ^ 1074
 unfolding steps
@@ -77,14 +70,13 @@ steps-zero = refl
 -- ---- fields of patterns
 
 by_sign : (b : ℕ) → b < 2 ^ 64 → b / 2 ^ 63 % 2 ^ 1 * 2 ^ 63 ≡ cond (leb (2 ^ 63) b) (2 ^ 63) 0
-by_sign b h = go (leb (2 ^ 63) b) refl
-  where
-    go : (s : Bool) → leb (2 ^ 63) b ≡ s → b / 2 ^ 63 % 2 ^ 1 * 2 ^ 63 ≡ cond s (2 ^ 63) 0
-    go true e = omega (arith, leb-true (2 ^ 63) b e)
-    go false e = omega (arith, leb-false (2 ^ 63) b e)
+by_sign b h = grind arith
 
--- the sign of b before z
-pub signed : (b z : ℕ) → b < 2 ^ 64 → z < 2 ^ 63 → bit_or (bit_and b (2 ^ 63)) z ≡ cond (leb (2 ^ 63) b) (2 ^ 63) 0 + z
+-- the sign of b, and it before z
+sign : (b : ℕ) → b < 2 ^ 64 → bit_and b (2 ^ 63) ≡ cond (leb (2 ^ 63) b) (2 ^ 63) 0
+sign b h = and_high b 1 63 ∙ by_sign b h
+
+signed : (b z : ℕ) → b < 2 ^ 64 → z < 2 ^ 63 → bit_or (bit_and b (2 ^ 63)) z ≡ cond (leb (2 ^ 63) b) (2 ^ 63) 0 + z
 signed b z h l = ap (λ (a : ℕ). bit_or a z) (and_high b 1 63) ∙ or_shifted (b / 2 ^ 63 % 2 ^ 1) 63 z l ∙ ap (λ (a : ℕ). a + z) (by_sign b h)
 
 -- the ones below 2^(i + 1), shifted out of 52, and the one at 2^i out of 51
@@ -108,7 +100,7 @@ cleared n i l h =
 above-cleared : (c d q w : ℕ) → 0 < q → (c * (d * q) + w) / q * q ≡ c * (d * q) + w / q * q
 above-cleared c d q w h =
     let e : c * (d * q) + w ≡ w + c * d * q = omega (arith, mul_assoc c d q) in
-    let p : (c * (d * q) + w) / q ≡ w / q + c * d = ap (λ (a : ℕ). a / q) e ∙ add-mul-div_right w (c * d) h in
+    let p : (c * (d * q) + w) / q ≡ w / q + c * d = grind (arith, add-mul-div_right) in
     ap (λ (a : ℕ). a * q) p ∙ omega (arith, mul_assoc c d q, add-mul (w / q) (c * d) q)
 
 -- the significand m, rounded to a multiple of q = 2 h, stays within its binade's ends
@@ -147,7 +139,7 @@ halved : (b i k : ℕ) → b / 2 ^ 52 % 2 ^ 11 ≡ suc k → 2 ^ k * 2 ^ suc i �
 halved b i k g P =
     let m = 2 ^ 52 + b % 2 ^ 52 in
     let r = b % 2 ^ 63 in
-    let a : 2 ^ 52 + r % 2 ^ 52 ≡ m = ap (λ (t : ℕ). 2 ^ 52 + t) (mod-mod-pow b 11 52) in
+    let a : 2 ^ 52 + r % 2 ^ 52 ≡ m = grind arith in
     let c : r / 2 ^ 52 ≡ suc k = field b 11 52 ∙ g in
     ap (λ (t : ℕ). ratio_round_half_up t (2 ^ 1074)) (steps_high binary64 r (least r k c) ∙ (λ t. a t * 2 ^ (c t - 1)) ∙ ap (λ (t : ℕ). m * 2 ^ t) {x = suc k - 1} {y = k} (pred-suc k))
     ∙ half-same (m * 2 ^ k) (2 ^ 1074) m (2 ^ suc i) (pow_pos 1074) (pow_pos (suc i)) (mul_assoc m (2 ^ k) (2 ^ suc i) ∙ ap (λ (t : ℕ). m * t) P)
@@ -161,9 +153,9 @@ halved b i k g P =
     pred-suc : (k : ℕ) → suc k - 1 ≡ k
     pred-suc k = omega arith
 
--- ---- the answers, for the pattern b of x
+-- ---- the answers, for the pattern b of x and its exponent field X
 
-module _ (x : Float) (b : ℕ) (F : T (fits binary64 x)) (e : b ≡ to_bits binary64 x) where
+module _ (x : Float) (b X : ℕ) (F : T (fits binary64 x)) (e : b ≡ to_bits binary64 x) (l : b < 2 ^ 64) (g : X ≡ b / 2 ^ 52 % 2 ^ 11) where
   number : b % 2 ^ 63 < 2047 * 2 ^ 52 → HasValue x (leb (2 ^ 63) b) (steps binary64 (b % 2 ^ 63)) (2 ^ 1074)
   number h =
       subst (λ (a : ℕ). HasValue x (leb (2 ^ 63) a) (steps binary64 (a % 2 ^ 63)) (2 ^ 1074)) (sym e)
@@ -175,14 +167,14 @@ module _ (x : Float) (b : ℕ) (F : T (fits binary64 x)) (e : b ≡ to_bits bina
       let s = leb (2 ^ 63) b in
       let n = m * 2 ^ k in
       let p : m * 2 ^ (k + 1074) ≡ n * 2 ^ 1074 = ap (λ (a : ℕ). m * a) (pow-add 2 k 1074) ∙ sym (mul_assoc m (2 ^ k) (2 ^ 1074)) in
-      let w : HasValue x s n 1 = reduced x s n (2 ^ 1074) (pow_pos 1074) (subst (λ (a : ℕ). HasValue x s a (2 ^ 1074)) p v) in
+      let w : HasValue x s n 1 = grind (arith, reduced, pow_pos) in
       let r : HasValue (round binary64 s n 1) s n 1 =
       round_exact binary64 s n 1 m (k + 1074) (omega arith) h (lt_of_lt_of_le (shl_lt {a = m} 53 (k + 1074) h) (pow_mono {i = 53 + (k + 1074)} {j = 2098} (omega arith)))
       (sym p ∙ sym (mul-one (m * 2 ^ (k + 1074)))) in
       nearest-is binary64 x x s n 1 n w (omega arith) (omega arith) F w r
 
   -- from 2^52 on
-  pub kept : 1075 ≤ b / 2 ^ 52 % 2 ^ 11 → x ≡ float_round binary64 x
+  pub kept : 1075 ≤ X → x ≡ float_round binary64 x
   kept h = go (eq-zero-or-pos (2047 * 2 ^ 52 - b % 2 ^ 63))
     where
       no : (x ≡ nan) ⊎ ((s : Bool) × (x ≡ inf s)) → x ≡ float_round binary64 x
@@ -208,23 +200,22 @@ module _ (x : Float) (b : ℕ) (F : T (fits binary64 x)) (e : b ≡ to_bits bina
       (round_whole binary64 s n u)
 
   -- below a half
-  pub to-zero : b < 2 ^ 64 → b / 2 ^ 52 % 2 ^ 11 < 1022 → of_bits binary64 (bit_or (bit_and b (2 ^ 63)) 0) ≡ float_round binary64 x
-  to-zero l h =
-      ap (of_bits binary64) (signed b 0 l (omega arith))
+  pub to-zero : X < 1022 → of_bits binary64 (bit_and b (2 ^ 63)) ≡ float_round binary64 x
+  to-zero h =
+      ap (of_bits binary64) {x = bit_and b (2 ^ 63)} {y = cond (leb (2 ^ 63) b) (2 ^ 63) 0 + 0} (omega (arith, sign b l))
       ∙ rounded 0 0 (omega arith) (omega arith) steps-zero (half-none (steps binary64 (b % 2 ^ 63)) (2 ^ 1074) (2 ^ 1073) refl (steps-lt (b % 2 ^ 63) 1021 (omega arith))) (omega arith)
 
   -- from a half to below one
-  pub to_one : b < 2 ^ 64 → b / 2 ^ 52 % 2 ^ 11 ≡ 1022 → of_bits binary64 (bit_or (bit_and b (2 ^ 63)) 0x3ff0_0000_0000_0000) ≡ float_round binary64 x
-  to_one l h =
+  pub to_one : X ≡ 1022 → of_bits binary64 (bit_or (bit_and b (2 ^ 63)) 0x3ff0_0000_0000_0000) ≡ float_round binary64 x
+  to_one h =
       ap (of_bits binary64) (signed b 0x3ff0_0000_0000_0000 l (omega arith))
       ∙ rounded 0x3ff0_0000_0000_0000 1 (omega arith) (omega arith) steps-one
       (half-one (steps binary64 (b % 2 ^ 63)) (2 ^ 1074) (2 ^ 1073) refl (steps-lower (b % 2 ^ 63) (omega arith)) (steps-lt (b % 2 ^ 63) 1022 (omega arith)))
       (omega arith)
 
   -- from one to below 2^52: q is the weight of the unit in the pattern
-  pub between : (X : ℕ) → b < 2 ^ 64 → X ≡ b / 2 ^ 52 % 2 ^ 11 → 1023 ≤ X → X < 1075
-      → of_bits binary64 (bit_and (b + 2 ^ 51 / 2 ^ (X - 1023)) (2 ^ 64 - 1 - (2 ^ 52 - 1) / 2 ^ (X - 1023))) ≡ float_round binary64 x
-  between X l f h u =
+  pub between : 1023 ≤ X → X < 1075 → of_bits binary64 (bit_and (b + 2 ^ 51 / 2 ^ (X - 1023)) (2 ^ 64 - 1 - (2 ^ 52 - 1) / 2 ^ (X - 1023))) ≡ float_round binary64 x
+  between h u =
       let j = X - 1023 in
       let i = 1074 - X in
       let q = 2 ^ suc i in
@@ -232,7 +223,7 @@ module _ (x : Float) (b : ℕ) (F : T (fits binary64 x)) (e : b ≡ to_bits bina
       let n = (m + 2 ^ i) / q in
       let p : 2 ^ j * q ≡ 2 ^ 52 = sym (pow-add 2 j (suc i)) ∙ ap (λ (a : ℕ). 2 ^ a) {x = j + suc i} {y = 52} (omega arith) in
       let P : 2 ^ (j + 1022) * q ≡ 2 ^ 1074 = sym (pow-add 2 (j + 1022) (suc i)) ∙ ap (λ (a : ℕ). 2 ^ a) {x = j + 1022 + suc i} {y = 1074} (omega arith) in
-      let w : (2 ^ j * q ≤ n * q) × (n * q ≤ 2 * (2 ^ j * q)) = in-binade m (2 ^ j) q (2 ^ i) (pow-succ' 2 i) (pow_pos i) (omega arith) (omega arith) in
+      let w : (2 ^ j * q ≤ n * q) × (n * q ≤ 2 * (2 ^ j * q)) = grind (arith, in-binade, pow-succ', pow_pos) in
       let z = (j + 1022) * 2 ^ 52 + n * q in
       let Z : steps binary64 z ≡ n * 2 ^ 1074 =
       steps-packed binary64 (n * q) (j + 1022) (omega arith) (omega arith) ∙ mul_assoc n q (2 ^ (j + 1022)) ∙ ap (λ (a : ℕ). n * a) (mul_comm q (2 ^ (j + 1022)) ∙ P) in

@@ -1,5 +1,5 @@
 -- What the two tests of an exponent answer, and that the bit pattern of an f32 says it. Assumes nothing.
-use Rattle.std.proofs.Common.{◌≡◌, ℕ, zero, suc, ◌+◌, ◌-◌, ◌*◌, ◌/◌, ◌%◌, ◌^◌, ◌<◌, ◌≤◌, max, Bool, true, false, cond, ◌&&◌, T, eqb, leb, ℤ, pos, negsuc, sym, refl, ap, ◌∙◌, subst, ap₂, mod-lt, div-lt_iff_lt-mul, pow-suc, mul-one, div-one, add-one, arith, eq-eqb, ne_eqb, eqb-true, le-leb, leb-false, leb-true}
+use Rattle.std.proofs.Common.{◌≡◌, ℕ, zero, suc, ◌+◌, ◌*◌, ◌/◌, ◌%◌, ◌^◌, ◌<◌, ◌≤◌, Bool, true, false, cond, T, eqb, leb, ℤ, sym, refl, ap, ◌∙◌, subst, ap₂, mod-lt, div-lt_iff_lt-mul, pow-suc, div-one, add-one, arith, eq-eqb, ne_eqb, eqb-true, le-leb, leb-false, leb-true}
 use native.Mathlib.Nat.{mod-one, div-div-eq-div-mul, pow-succ'}
 use lib.Pow.{split, field, mod-mod-pow, shl-shr}
 use lib.Bits.{bit_and, bit_or, and_high, or_block, or_step, or_zero_r, block_half, block_odd, shifted_even}
@@ -7,7 +7,7 @@ use lib.Count.{count_trailing_zeros, under, trailing_le}
 use lib.Ieee as Ieee
 use lib.Ieee.{Float, nan, inf, fin, binary32, minus, fits, of_fields, of_bits, to_bits}
 use lib.Ieee.Bits.{of_bits-to_bits}
-use borrow.Author.Tests.{lt-leb, eqb-false}
+use borrow.Author.Tests.{lt-leb}
 use Rattle.pairs.specs.Whole.{whole, odd, integerf, odd_integerf}
 
 -- ---- laws of the tests
@@ -30,45 +30,24 @@ odd-rem m k o z =
     omega arith
 
 fraction : (m k : ℕ) → m % 2 ≡ 1 → eqb (m * 1 % 2 ^ suc k) 0 ≡ false
-fraction m k o = ne_eqb _ _ (λ (z : m * 1 % 2 ^ suc k ≡ 0). odd-rem m k o (ap (λ (a : ℕ). a % 2 ^ suc k) (sym (mul-one m)) ∙ z))
+fraction m k o = omega (arith, ne_eqb, odd-rem)
 
 no_fraction : (m k : ℕ) → eqb (m * 2 ^ k % 1) 0 ≡ true
 no_fraction m k = eq-eqb _ _ (mod-one (m * 2 ^ k))
 
 last-digit : (m k : ℕ) → m % 2 ≡ 1 → eqb (m * 2 ^ k / 1 % 2) 1 ≡ eqb k 0
-last-digit m zero o = eq-eqb _ _ (ap (λ (a : ℕ). a % 2) (div-one (m * 1) ∙ mul-one m) ∙ o)
-last-digit m (suc k) o =
-    ap (λ (a : ℕ). eqb a 1) (ap (λ (a : ℕ). a % 2) (div-one (m * 2 ^ suc k)) ∙ shifted_even m k)
-    ∙ sym (ne_eqb (suc k) 0 (λ (z : suc k ≡ 0). omega arith))
+last-digit m zero o = grind (arith, eq-eqb, div-one)
+last-digit m (suc k) o = grind (arith, div-one, shifted_even, ne_eqb)
 
 whole-at : (s : Bool) (m a l : ℕ) → m % 2 ≡ 1 → whole (fin s m (minus a l)) ≡ leb l a
-whole-at s m a l o = go (leb l a)
-  where
-    go : (b : Bool) → whole (fin s m (cond b (pos (a - l)) (negsuc (l - suc a)))) ≡ b
-    go true = no_fraction m (a - l)
-    go false = fraction m (l - suc a) o
+whole-at s m a l o = grind (arith, no_fraction, fraction)
 
 -- tests of two numbers that say the same
 same-eqb : (a b c d : ℕ) → (a ≡ b → c ≡ d) → (c ≡ d → a ≡ b) → eqb a b ≡ eqb c d
-same-eqb a b c d to from = go (eqb c d) refl
-  where
-    go : (t : Bool) → eqb c d ≡ t → eqb a b ≡ t
-    go true e = eq-eqb a b (from (eqb-true c d e))
-    go false e = ne_eqb a b (λ (q : a ≡ b). eqb-false c d e (to q))
+same-eqb a b c d to from = grind arith
 
 odd-at : (s : Bool) (m a l : ℕ) → m % 2 ≡ 1 → odd (fin s m (minus a l)) ≡ eqb a l
-odd-at s m a l o = go (leb l a) refl
-  where
-    go : (b : Bool) → leb l a ≡ b → odd (fin s m (cond b (pos (a - l)) (negsuc (l - suc a)))) ≡ eqb a l
-    go true e =
-        let le : l ≤ a = leb-true l a e in
-        ap (λ (t : Bool). t && eqb (m * 2 ^ (a - l) / 1 % 2) 1) (no_fraction m (a - l))
-        ∙ last-digit m (a - l) o
-        ∙ same-eqb (a - l) 0 a l (λ z. omega arith) (λ z. omega arith)
-    go false e =
-        let lt : a < l = leb-false l a e in
-        ap (λ (t : Bool). t && eqb (m * 1 / 2 ^ suc (l - suc a) % 2) 1) (fraction m (l - suc a) o)
-        ∙ sym (ne_eqb a l (λ z. omega arith))
+odd-at s m a l o = grind (arith, leb-true, no_fraction, last-digit, same-eqb, leb-false, fraction, ne_eqb)
 
 -- an odd significand is not 0
 tests-odd : (s : Bool) (m : ℕ) (e : ℤ) → m % 2 ≡ 1 → (integerf (fin s m e) ≡ whole (fin s m e)) × (odd_integerf (fin s m e) ≡ odd (fin s m e))
@@ -96,9 +75,7 @@ same-zeros : (k c d a b t : ℕ) → k < c → k < d → a % 2 ≡ 1 → b % 2 �
 unfolding count_trailing_zeros
 same-zeros k zero d a b t p q o u h = absurd (omega arith)
 same-zeros k (suc c) zero a b t p q o u h = absurd (omega arith)
-same-zeros zero (suc c) (suc d) a b t p q o u h =
-    let one : (n : ℕ) → n % 2 ≡ 1 → (n * 1 + t) % 2 ≡ 1 = λ n e. omega arith in
-    ap (λ (r : ℕ). under r (count_trailing_zeros c ((a * 1 + t) / 2))) (one a o) ∙ sym (ap (λ (r : ℕ). under r (count_trailing_zeros d ((b * 1 + t) / 2))) (one b u))
+same-zeros zero (suc c) (suc d) a b t p q o u h = grind (arith, count_trailing_zeros)
 same-zeros (suc k) (suc c) (suc d) a b t p q o u h =
     ap₂ (λ (r n : ℕ). under r (count_trailing_zeros c n)) (block_odd a k t) (block_half a k t)
     ∙ ap (λ (z : ℕ). under (t % 2) z) (same-zeros k c d a b (t / 2) (omega arith) (omega arith) o u ((div-lt_iff_lt-mul (omega arith)).1 (subst (λ (x : ℕ). t < x) (pow-suc 2 k) h)))
@@ -136,11 +113,7 @@ large s true = (refl, refl)
 large s false = (refl, refl)
 
 same-leb : (n x : ℕ) → n ≡ suc x → leb 150 n ≡ leb 149 x
-same-leb n x e = go (leb 149 x) refl
-  where
-    go : (b : Bool) → leb 149 x ≡ b → leb 150 n ≡ b
-    go true h = le-leb 150 n (omega (arith, leb-true 149 x h))
-    go false h = lt-leb 150 n (omega (arith, leb-false 149 x h))
+same-leb n x e = grind arith
 
 -- the sign s, the exponent field x and the fraction t
 of-fields : (s : Bool) (x t z : ℕ) → t < 2 ^ 23 → z ≡ count_trailing_zeros 24 (2 ^ 23 + t) → Says (x + z) (of_fields binary32 s x t)
@@ -164,10 +137,7 @@ field_is : (b : ℕ) → bit_and b 0x7f80_0000 / 2 ^ 23 ≡ b % 2 ^ 31 / 2 ^ 23
 field_is b = ap (λ (a : ℕ). a / 2 ^ 23) (and_high b 8 23) ∙ shl-shr (b / 2 ^ 23 % 2 ^ 8) 23 ∙ sym (field b 8 23)
 
 or-ones : (a : ℕ) → bit_or a 255 % 2 ≡ 1
-or-ones a = ap (λ (n : ℕ). n % 2) (or_step a 255) ∙ go (a % 2) (mod-lt a (omega arith))
-  where
-    go : (r : ℕ) → r < 2 → (bit_or (a / 2) 127 * 2 + max r 1) % 2 ≡ 1
-    go r h = omega arith
+or-ones a = omega (arith, or_step, mod-lt)
 
 -- with the exponent field set to ones, the fraction t stands below a set bit
 zeros-is : (b : ℕ) → count_trailing_zeros 32 (bit_or b 0x7f80_0000) ≡ count_trailing_zeros 24 (2 ^ 23 + b % 2 ^ 23)

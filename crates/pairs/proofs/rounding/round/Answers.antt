@@ -1,30 +1,21 @@
-use Rattle.std.proofs.Common.{ℕ, ◌/◌, ◌^◌, T, sym, ap, ◌∙◌, subst, arith}
-use lib.Bits.{bit_and, bit_or, and_mask}
-use lib.Ieee.{binary64, of_bits}
+use Rattle.std.proofs.Common.{rules, ◌∙◌, arith}
 use Rattle.pairs.proofs.rounding.Laws.{kept, to-zero, to_one, between}
 use Rattle.pairs.proofs.rounding.round.Goals as goal
-use Rattle.pairs.proofs.rounding.round.Goals.{then-field-eq1022, else-field-eq1022}
 
-pub returns-then-field-ge1075 : goal.returns-then-field-ge1075
-returns-then-field-ge1075 c =
-    let b = c.f64_to_bits_with_nan-bits.result in
-    kept c.args.x b (subst T (sym c.well_formed.0.1) tt) c.f64_to_bits_with_nan-bits.ensures (omega (arith, and_mask (b / 2 ^ 52) 11))
+pub returns-in-0-to-1021 : goal.returns-in-0-to-1021
+returns-in-0-to-1021 c =
+    c.f64_from_bits_with_nan-in-0-to-1021.ensures
+    ∙ to-zero c.args.x _ c.field_f64.result (search rules) c.f64_to_bits_with_nan-bits.ensures c.f64_to_bits_with_nan-bits.type_inv c.field_f64.ensures (omega arith)
 
-pub returns-then-field-lt1023 : goal.returns-then-field-lt1023
-returns-then-field-lt1023 c =
-    let x = c.args.x in
-    let b = c.f64_to_bits_with_nan-bits.result in
-    let e = c.f64_to_bits_with_nan-bits.ensures in
-    let F = subst T (sym c.well_formed.0.1) tt in
-    let size = λ (z : ℕ). of_bits binary64 (bit_or (bit_and b (2 ^ 63)) z) in
-    elim c.if-field-eq1022.branch [
-      | then-field-eq1022 w ↦ c.f64_from_bits_with_nan.ensures ∙ ap size w.size-is ∙ to_one x b F e c.f64_to_bits_with_nan-bits.type_inv (omega (arith, and_mask (b / 2 ^ 52) 11))
-      | else-field-eq1022 w ↦ c.f64_from_bits_with_nan.ensures ∙ ap size w.size-is ∙ to-zero x b F e c.f64_to_bits_with_nan-bits.type_inv (omega (arith, and_mask (b / 2 ^ 52) 11))
-    ]
+pub returns-in-1022 : goal.returns-in-1022
+returns-in-1022 c =
+    c.f64_from_bits_with_nan.ensures
+    ∙ to_one c.args.x _ c.field_f64.result (search rules) c.f64_to_bits_with_nan-bits.ensures c.f64_to_bits_with_nan-bits.type_inv c.field_f64.ensures c.in-1022.is
 
-pub returns : goal.returns
-returns c =
-    let b = c.f64_to_bits_with_nan-bits.result in
-    c.f64_from_bits_with_nan-2.ensures
-    ∙ between c.args.x b (subst T (sym c.well_formed.0.1) tt) c.f64_to_bits_with_nan-bits.ensures (bit_and (b / 2 ^ 52) 2047) c.f64_to_bits_with_nan-bits.type_inv (and_mask (b / 2 ^ 52) 11)
-    c.if-field-lt1023.false (omega arith)
+pub returns-in-1023-to-1074 : goal.returns-in-1023-to-1074
+returns-in-1023-to-1074 c =
+    c.f64_from_bits_with_nan-in-1023-to-1074.ensures
+    ∙ between c.args.x _ c.field_f64.result (search rules) c.f64_to_bits_with_nan-bits.ensures c.f64_to_bits_with_nan-bits.type_inv c.field_f64.ensures (omega arith) (omega arith)
+
+pub returns-in_default : goal.returns-in_default
+returns-in_default c = kept c.args.x c.f64_to_bits_with_nan-bits.result c.field_f64.result (search rules) c.f64_to_bits_with_nan-bits.ensures c.f64_to_bits_with_nan-bits.type_inv c.field_f64.ensures (omega arith)

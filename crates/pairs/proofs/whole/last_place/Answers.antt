@@ -1,8 +1,6 @@
-use Rattle.std.proofs.Common.{T, sym, subst}
+use Rattle.std.proofs.Common.{rules}
 use Rattle.pairs.proofs.whole.Laws.{says}
 use Rattle.pairs.proofs.whole.last_place.Goals as goal
 
 pub returns : goal.returns
-returns c =
-    let h = says c.args.x _ (subst T (sym c.well_formed.0.1) tt) c.f32_to_bits_with_nan-x_u.ensures in
-    record { whole = h.0; odd = h.1 }
+returns c = let h = says c.args.x _ (search rules) c.f32_to_bits_with_nan-x_u.ensures in record { whole = h.0; odd = h.1 }

@@ -1,7 +1,0 @@
-use Rattle.std.proofs.Common.{rules}
-use Rattle.pairs.specs.DoubleDouble.{plus_product}
-use Rattle.pairs.proofs.double_double.DoubleDouble.quick_mul_add_fma.Goals as goal
-
-pub returns : goal.returns
-unfolding plus_product
-returns g c = search rules
