@@ -2,7 +2,7 @@
 use Rattle.std.proofs.Common.{◌≡◌, ℕ, ◌*◌, ◌<◌, ◌≤◌, Bool, true, false, cond, not, ◌&&◌, ◌||◌, T, ltb, ◌⊎◌, ℤ, pos, sym, refl, ap, ◌∙◌, subst, inl, inr, arith, ltb-false, ltb-true}
 use mathlib.Core.Bool.{beq}
 use lib.Dec.{not_T}
-use lib.Ieee.{Float, nan, inf, fin, binary32, up, down, neg, mul, lt, eq, ne, fits, of_bits}
+use lib.Ieee.{Float, nan, inf, fin, binary32, up, down, neg, mul, lt, eq, is_nan, fits, of_bits}
 use lib.Ieee.Bits.{is_true, is_false}
 use Rattle.std.specs.Float.{float_zero, float_one, float_is_infinite, float_with_sign, sqrt}
 use Rattle.pairs.specs.Whole.{whole, odd}
@@ -19,7 +19,7 @@ use Rattle.power.proofs.FloatTests.{two, half, Side}
 -- ---- the definition, by what its tests answer
 
 branch : (m : Arithmetic) (x y : Float) (a b c d e : Bool)
-    → (eq y float_zero || eq x float_one) ≡ a → (ne x x || ne y y) ≡ b → float_is_infinite y ≡ c → float_is_infinite x ≡ d → eq x float_zero ≡ e
+    → (eq y float_zero || eq x float_one) ≡ a → (is_nan x || is_nan y) ≡ b → float_is_infinite y ≡ c → float_is_infinite x ≡ d → eq x float_zero ≡ e
     → power m x y ≡ cond a float_one (cond b nan (cond c (infinite_exponent x y) (cond d (infinite_base m.scalar x y) (cond e (zero_base m.scalar x y) (ordinary m x y)))))
 unfolding power of_bits
 branch m x y a b c d e p q r s t =
@@ -83,23 +83,23 @@ exponent (fin s m e) t F N = (t, omega (arith, N))
 
 pub at-zero-exponent : (m : Arithmetic) (x y : Float) → Zero y → power m x y ≡ float_one
 at-zero-exponent m x y Z =
-    branch m x y true (ne x x || ne y y) (float_is_infinite y) (float_is_infinite x) (eq x float_zero) (ap (λ (b : Bool). b || eq x float_one) (tests.eq-zero y Z)) refl refl refl refl
+    branch m x y true (is_nan x || is_nan y) (float_is_infinite y) (float_is_infinite x) (eq x float_zero) (ap (λ (b : Bool). b || eq x float_one) (tests.eq-zero y Z)) refl refl refl refl
 
 pub at-unit-base : (m : Arithmetic) (x y : Float) → x ≡ float_one → power m x y ≡ float_one
 at-unit-base m x y e =
-    branch m x y true (ne x x || ne y y) (float_is_infinite y) (float_is_infinite x) (eq x float_zero) (tests.second (eq y float_zero) (eq x float_one) (tests.eq-one x e)) refl refl refl refl
+    branch m x y true (is_nan x || is_nan y) (float_is_infinite y) (float_is_infinite x) (eq x float_zero) (tests.second (eq y float_zero) (eq x float_one) (tests.eq-one x e)) refl refl refl refl
 
 neither : (a b : Bool) → a ≡ false → b ≡ false → (a || b) ≡ false
 neither a b p q = λ i. p i || q i
 
-at-nan : (m : Arithmetic) (x y : Float) → eq y float_zero ≡ false → eq x float_one ≡ false → (ne x x || ne y y) ≡ true → power m x y ≡ nan
+at-nan : (m : Arithmetic) (x y : Float) → eq y float_zero ≡ false → eq x float_one ≡ false → (is_nan x || is_nan y) ≡ true → power m x y ≡ nan
 at-nan m x y p q h = branch m x y false true (float_is_infinite y) (float_is_infinite x) (eq x float_zero) (neither (eq y float_zero) (eq x float_one) p q) h refl refl refl
 
 pub at-nan-base : (m : Arithmetic) (y : Float) → Not (Zero y) → power m nan y ≡ nan
-at-nan-base m y N = at-nan m nan y (tests.not-eq-zero y N) (unfold eq in refl) (unfold ne in refl)
+at-nan-base m y N = at-nan m nan y (tests.not-eq-zero y N) (unfold eq in refl) (unfold is_nan in refl)
 
 pub at-nan-exponent : (m : Arithmetic) (x : Float) → T (fits binary32 x) → Not (x ≡ float_one) → power m x nan ≡ nan
-at-nan-exponent m x X N = at-nan m x nan (unfold eq in refl) (tests.not-eq-one x X N) (tests.second (ne x x) (ne nan nan) (unfold ne in refl))
+at-nan-exponent m x X N = at-nan m x nan (unfold eq in refl) (tests.not-eq-one x X N) (tests.second (is_nan x) (is_nan nan) (unfold is_nan in refl))
 
 -- an infinite exponent; at 1 the answers agree
 pub at-infinite-exponent : (m : Arithmetic) (x : Float) (s : Bool) → T (fits binary32 x) → Not (Nan x) → power m x (inf s) ≡ infinite_exponent x (inf s)
@@ -111,17 +111,17 @@ at-infinite-exponent m x s X N = go (tests.one-or-not x X)
         ∙ sym (infinite-exponent-branch x (inf s) true (lt float_one (float_with_sign false x)) (lt float_zero (inf s)) (tests.size-at-one x (subst At1 (sym e) refl)) refl refl)
     go (inr q) =
         branch m x (inf s) false false true (float_is_infinite x) (eq x float_zero) (neither (eq (inf s) float_zero) (eq x float_one) (unfold eq in refl) q)
-        (neither (ne x x) (ne (inf s) (inf s)) (tests.ne-itself x N) (tests.ne-infinite s)) (tests.infinite-is s) refl refl
+        (neither (is_nan x) (is_nan (inf s)) (tests.number-is x N) (unfold is_nan in refl)) (tests.infinite-is s) refl refl
 
-finite-not-nan : (x : Float) → Finite x → ne x x ≡ false
-finite-not-nan x F = tests.ne-itself x (tests.not-nan Finite (λ z. z) x F)
+finite-not-nan : (x : Float) → Finite x → is_nan x ≡ false
+finite-not-nan x F = tests.number-is x (tests.not-nan Finite (λ z. z) x F)
 
 -- an infinite base; the answer is negative if the base is and the exponent is odd
 pub at-infinite-base : (m : Arithmetic) → Rules m → (s : Bool) (y : Float) → T (fits binary32 y) → Finite y → Not (Zero y)
     → power m (inf s) y ≡ signed (s && odd y) (cond (lt float_zero y) (inf false) float_zero)
 at-infinite-base m R s y Y F N =
     branch m (inf s) y false false false true (eq (inf s) float_zero) (neither (eq y float_zero) (eq (inf s) float_one) (tests.not-eq-zero y N) (unfold eq in refl))
-    (neither (ne (inf s) (inf s)) (ne y y) (tests.ne-infinite s) (finite-not-nan y F)) (tests.finite-not-infinite y F) (tests.infinite-is s) refl
+    (neither (is_nan (inf s)) (is_nan y) (unfold is_nan in refl) (finite-not-nan y F)) (tests.finite-not-infinite y F) (tests.infinite-is s) refl
     ∙ infinite-base-branch m.scalar (inf s) y s (odd y) (unfold lt in refl) (R.scalar.odd_told y (exponent y Y F N))
 
 -- a finite base other than 1 and a finite exponent other than 0
@@ -129,7 +129,7 @@ at-finite : (m : Arithmetic) (x y : Float) (e : Bool) → Finite x → eq x floa
     → power m x y ≡ cond e (zero_base m.scalar x y) (ordinary m x y)
 at-finite m x y e F p G N q =
     branch m x y false false false false e (neither (eq y float_zero) (eq x float_one) (tests.not-eq-zero y N) p)
-    (neither (ne x x) (ne y y) (finite-not-nan x F) (finite-not-nan y G)) (tests.finite-not-infinite y G) (tests.finite-not-infinite x F) q
+    (neither (is_nan x) (is_nan y) (finite-not-nan x F) (finite-not-nan y G)) (tests.finite-not-infinite y G) (tests.finite-not-infinite x F) q
 
 -- a zero base; the answer is a zero for a positive exponent and ∞ for a negative one
 pub at-zero-base : (m : Arithmetic) (x y : Float) (p b : Bool) → Zero x → Finite x → Finite y → Side p y → (negative_zero x && keeps_sign m.scalar y) ≡ b

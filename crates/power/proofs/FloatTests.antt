@@ -1,12 +1,9 @@
--- What the comparisons answer on values: with itself, against a constant, against 0 and against 1. Assumes nothing.
+-- What the tests answer on values: whether it is NaN, and compared with a constant, with 0 and with 1. Assumes nothing.
 use Rattle.std.proofs.Common.{◌≡◌, ℕ, zero, suc, ◌+◌, ◌*◌, ◌/◌, ◌%◌, ◌<◌, Bool, true, false, not, ◌&&◌, ◌||◌, T, eqb, ◌⊎◌, ℤ, pos, negsuc, sym, refl, ap, ◌∙◌, subst, inl, inr, true≢false, mul-pos, zero-mul, mul-one, arith, eqb→eq, le-ltb, lt-ltb, eq-eqb, ne_eqb}
 use mathlib.Core.Bool.{beq, false≢true}
 use native.Mathlib.Nat.{zero-div, zero-mod}
 use borrow.Author.Tests.{both_ways}
-use lib.Dec.{not_T}
-use lib.Ieee.{Float, nan, inf, fin, binary32, up, down, level, fits, lt, eq, ne}
-use lib.Ieee.Bits.{is_false}
-use lib.Ieee.Compare.{differs_from_itself}
+use lib.Ieee.{Float, nan, inf, fin, binary32, up, down, level, fits, lt, eq, is_nan}
 use lib.Ieee.Fits.{and_l, and_r, up_pos, down_pos}
 use Rattle.std.specs.Float as Floats
 use Rattle.std.specs.Float.{float_one, float_is_infinite, float_with_sign}
@@ -24,16 +21,13 @@ half = fin false 1 (negsuc 0)
 abbrev pub twenty-four : Float
 twenty-four = fin false 3 (pos 3)
 
--- ---- with itself, and infinities
+-- ---- NaN, and infinities
 
--- only NaN differs from itself
-pub ne-itself : (x : Float) → Not (Nan x) → ne x x ≡ false
-ne-itself x h = is_false (ne x x) (not_T (ne x x) (λ t. h (differs_from_itself x t)))
-
-pub ne-infinite : (s : Bool) → ne (inf s) (inf s) ≡ false
-unfolding ne
-ne-infinite true = refl
-ne-infinite false = refl
+pub number-is : (x : Float) → Not (Nan x) → is_nan x ≡ false
+unfolding is_nan
+number-is nan h = absurd (h refl)
+number-is (inf s) h = refl
+number-is (fin s m e) h = refl
 
 pub finite-not-infinite : (x : Float) → Finite x → float_is_infinite x ≡ false
 unfolding float_is_infinite

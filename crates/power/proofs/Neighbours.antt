@@ -5,7 +5,9 @@ use borrow.Author.Tests.{not-false}
 use lib.Arith.{lt_of_le-ne}
 use lib.Ieee as Ieee
 use lib.Ieee.{Float, Format, nan, binary32, binary64, hid, ones, top, of_bits, to_bits, is_nan, ne}
-use lib.Ieee.Bits.{to_bits-of_bits, nan_bits_is, nan_bits_above}
+use lib.Dec.{not_T}
+use lib.Ieee.Bits.{is_false, to_bits-of_bits, nan_bits_is, nan_bits_above}
+use lib.Ieee.Compare.{differs_from_itself}
 use lib.Ieee.Nearest.{closest}
 use Rattle.std.specs.Float.{round_to_format}
 use Rattle.pairs.specs.Narrowing.{Narrowed}
@@ -13,8 +15,7 @@ use Rattle.pairs.proofs.narrowing.Laws.{half-even, normal, subnormal, tiny, huge
 use Rattle.power.specs.Lookup.{f64}
 use Rattle.power.specs.Fast.{upper, lower, tested}
 use Rattle.power.specs.declared.fast.Doubt.{Doubt}
-use Rattle.power.specs.declared.fast.Outcome.TheVariants.{Sure, Open}
-use Rattle.power.proofs.FloatTests.{ne-itself, not-nan}
+use Rattle.std.specs.Prelude.{Ok, Err}
 
 -- ---- the nearest whole number
 
@@ -118,10 +119,6 @@ no_nan f b h = subst (λ (z : Bool). T (not z)) (sym (sym (nan_bits_is f b) ∙ 
 power-no-nan : (c : ℕ) → c ≤ 1535 → T (not (is_nan (power c)))
 power-no-nan c h = no_nan binary64 (c * 2 ^ 52) (omega arith)
 
--- what is no NaN equals itself
-self : (x : Float) → T (not (is_nan x)) → ne x x ≡ false
-self x h = ne-itself x (not-nan (λ y. T (not (is_nan y))) (unfold is_nan in λ t. t) x h)
-
 bits : (c : ℕ) → c ≤ 1535 → to_bits binary64 (power c) ≡ c * 2 ^ 52
 bits c h = to_bits-of_bits binary64 (c * 2 ^ 52) (omega arith) (power-no-nan c h)
 
@@ -139,32 +136,33 @@ lower-is : (e c r : ℕ) → e ≤ 128 → 511 ≤ c → c ≤ 1535 → Narrowed
 lower-is e c r E l h N = moved-is (λ x. x + 2 ^ 64 - e) c (c * 2 ^ 52 - e) r h (omega arith) N
 
 -- `tested`, where both neighbours are told
-decided : (e : ℕ) (x u l : Float) (d : Doubt) → ne x x ≡ false → upper e x ≡ u → lower e x ≡ l → tested e x d ≡ cond (Ieee.eq u l) (Sure u) (Open d)
-decided e x u l d n p q = λ i. cond (n i) (Sure nan) (cond (Ieee.eq (p i) (q i)) (Sure (p i)) (Open d))
+decided : (e : ℕ) (x u l : Float) (d : Doubt) → is_nan x ≡ false → upper e x ≡ u → lower e x ≡ l → tested e x d ≡ cond (Ieee.eq u l) (Ok u) (Err d)
+decided e x u l d n p q = λ i. cond (n i) (Ok nan) (cond (Ieee.eq (p i) (q i)) (Ok (p i)) (Err d))
 
+-- what is no NaN equals itself
 equal-self : (x : Float) → T (not (is_nan x)) → Ieee.eq x x ≡ true
-unfolding ne
-equal-self x h = not-false (Ieee.eq x x) (self x h)
+unfolding is_nan ne
+equal-self x h = not-false (Ieee.eq x x) (is_false (ne x x) (not_T (ne x x) (λ t. subst (λ (y : Float). T (not (is_nan y))) (differs_from_itself x t) h)))
 
 -- a power of two other than 2^-150 is sure, and is rounded once
-pub tested-sure : (e c : ℕ) (d : Doubt) → e ≤ 128 → 511 ≤ c → c ≤ 1535 → (c ≡ 873 → ⊥) → tested e (f64 (c * 2 ^ 52)) d ≡ Sure (round_to_format binary32 (f64 (c * 2 ^ 52)))
+pub tested-sure : (e c : ℕ) (d : Doubt) → e ≤ 128 → 511 ≤ c → c ≤ 1535 → (c ≡ 873 → ⊥) → tested e (f64 (c * 2 ^ 52)) d ≡ Ok (round_to_format binary32 (f64 (c * 2 ^ 52)))
 tested-sure e c d E lo hi away =
     let A = alike c lo hi away in
     let r = A.0 in
     let v = of_bits binary32 r in
     let mid = A.1 (c * 2 ^ 52) (omega arith, omega arith) in
     let same : Ieee.eq v v ≡ true = equal-self v (no_nan binary32 r (let h = mid.bound in omega arith)) in
-    decided e (power c) v v d (self (power c) (power-no-nan c hi)) (upper_is e c r E hi (A.1 (c * 2 ^ 52 + e) (omega arith, omega arith)))
+    decided e (power c) v v d (is_false (is_nan (power c)) (power-no-nan c hi)) (upper_is e c r E hi (A.1 (c * 2 ^ 52 + e) (omega arith, omega arith)))
     (lower-is e c r E lo hi (A.1 (c * 2 ^ 52 - e) (omega arith, omega arith)))
-    ∙ ap (λ (z : Bool). cond z (Sure v) (Open d)) same ∙ ap Sure (sym (narrows (c * 2 ^ 52) r mid))
+    ∙ ap (λ (z : Bool). cond z (Ok v) (Err d)) same ∙ ap Ok (sym (narrows (c * 2 ^ 52) r mid))
 
 -- 2^-150 is left open
-pub tested-tie : (e : ℕ) (d : Doubt) → 1 ≤ e → e ≤ 128 → tested e (f64 (873 * 2 ^ 52)) d ≡ Open d
+pub tested-tie : (e : ℕ) (d : Doubt) → 1 ≤ e → e ≤ 128 → tested e (f64 (873 * 2 ^ 52)) d ≡ Err d
 tested-tie e d l h =
-    decided e (power 873) (of_bits binary32 1) (of_bits binary32 0) d (self (power 873) (power-no-nan 873 (omega arith)))
+    decided e (power 873) (of_bits binary32 1) (of_bits binary32 0) d (is_false (is_nan (power 873)) (power-no-nan 873 (omega arith)))
     (upper_is e 873 1 h (omega arith) (above-tie (873 * 2 ^ 52 + e) (omega arith) (omega arith)))
     (lower-is e 873 0 h (omega arith) (omega arith) (tiny (873 * 2 ^ 52 - e) (omega arith)))
-    ∙ ap (λ (z : Bool). cond z (Sure (of_bits binary32 1)) (Open d)) differ
+    ∙ ap (λ (z : Bool). cond z (Ok (of_bits binary32 1)) (Err d)) differ
   where
     differ : Ieee.eq (of_bits binary32 1) (of_bits binary32 0) ≡ false
     differ = unfold Ieee.eq of_bits in refl

@@ -69,9 +69,9 @@ sum_is m K x R =
     (dyadic (unlike s false) (n * 2 ^ 14) 31 (omega arith) (lit≤ tt)) S.1)
 
 -- its nearest whole number is at most 192
-pub place-small : (m : Scalar) → ScalarRules m → (x : Float) → Small x → Fallback.place m x < 193
+pub place_small : (m : Scalar) → ScalarRules m → (x : Float) → Small x → Fallback.place m x < 193
 unfolding Fallback.place
-place-small m K x R =
+place_small m K x R =
     let z = m.fma x factor shift in
     let Z = sum_is m K x R in
     let c = cross z false Z.0 (2 ^ 31) Z.2 in

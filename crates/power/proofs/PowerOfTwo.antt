@@ -11,11 +11,11 @@ use Rattle.power.specs.ExactCases.{Times}
 use Rattle.power.specs.Reduction.{normalize, reduce}
 use Rattle.power.specs.Fast.{log, y64, rest_high, rest, count, scale, exp_poly, tested, fast}
 use Rattle.power.specs.declared.fast.Doubt.{Doubt}
-use Rattle.power.specs.declared.fast.Outcome.TheVariants.{Sure, Open}
+use Rattle.std.specs.Prelude.{Ok, Err}
 use Rattle.power.specs.Lemmas.Values.{number}
 use Rattle.power.specs.Lemmas.Alike.{IsZero}
 use Rattle.power.specs.Lemmas.Zeros.{mul-one-left}
-use Rattle.power.proofs.FloatTests.{ne-itself, not-nan}
+use Rattle.power.proofs.FloatTests.{number-is, not-nan}
 use Rattle.power.proofs.Multiples.{negative}
 use Rattle.power.proofs.NoRest.{NoRest}
 use Rattle.power.proofs.PowerReduction.{At, power-reduced}
@@ -43,7 +43,7 @@ staged m K k j x y A M =
     (λ i. Ieee.mul binary64 (exp-poly-zero m K (rest m r y6 high) (rest-zero m K k r y6 high A M.within Z) i) ((ap scale c ∙ scale-is (field j) range.0 range.1) i))
     ∙ mul-one-left p (field-number j) in (
       d,
-      (λ i. cond (ne-itself h (not-nan Number (λ z. z) h (number h (negative j) (nat_abs j * 64) 1 H)) i) (Sure nan) (tested m.err (same i) d)),
+      (λ i. cond (number-is h (not-nan Number (λ z. z) h (number h (negative j) (nat_abs j * 64) 1 H)) i) (Ok nan) (tested m.err (same i) d)),
       record { index = A.index; dx = A.dx; y6 = M.within; high = Z; count = c },
     )
 
@@ -64,16 +64,16 @@ only-tie (negsuc a) e = go (eq-zero-or-pos (a - 511))
 
 -- 2^j, rounded once
 pub fast-exact : (m : Scalar) → ScalarRules m → (x y : Float) (k j : ℤ) → T (fits binary32 x) → T (fits binary32 y) → x ≡ fin false 1 k → num y ≤ 2 ^ 32 * den y → Times k y j
-    → (j ≡ negsuc 149 → ⊥) → fast m x y ≡ Sure (round binary32 false (1 * up j) (down j))
+    → (j ≡ negsuc 149 → ⊥) → fast m x y ≡ Ok (round binary32 false (1 * up j) (down j))
 fast-exact m K x y k j X Y e l t away =
     let R = reached m K x y k j X Y e l t in
     let range = field-range j in
     R.1 ∙ tested-sure m.err (field j) R.0 K.err_most range.0 range.1 (λ q. away (only-tie j q))
-    ∙ ap (λ (v : Float). Sure (round_to_format binary32 v)) (field-value j) ∙ ap Sure (held-rounded j)
+    ∙ ap (λ (v : Float). Ok (round_to_format binary32 v)) (field-value j) ∙ ap Ok (held-rounded j)
 
 -- 2^-150, the tie of 0 and the smallest f32, is left open
 pub fast-tie : (m : Scalar) → ScalarRules m → (x y : Float) (k j : ℤ) → T (fits binary32 x) → T (fits binary32 y) → x ≡ fin false 1 k → num y ≤ 2 ^ 32 * den y → Times k y j
-    → j ≡ negsuc 149 → (d : Doubt) × (fast m x y ≡ Open d) × NoRest 55936 d
+    → j ≡ negsuc 149 → (d : Doubt) × (fast m x y ≡ Err d) × NoRest 55936 d
 fast-tie m K x y k j X Y e l t at =
     let R = reached m K x y k j X Y e l t in
     let d = R.0 in

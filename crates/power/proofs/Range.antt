@@ -58,9 +58,9 @@ between-high : (t i k : ℕ) → t ≤ i * 2 ^ 16 + (2 ^ 16 - 1) → (2 ^ 23 + i
 between-high t i k h l = lt_of_le_of_lt (mul-le-mul_right k (omega arith)) l
 
 -- the test at one entry, part by part
-pub reduction-rule : ReductionRule
+pub reduction_rule : ReductionRule
 unfolding entry range_reduction
-reduction-rule i t h l e =
+reduction_rule i t h l e =
     let b = get_or log_range_reduction_list i 0 in
     let r = of_bits binary64 b in
     let k = whole r in
@@ -151,7 +151,7 @@ first_range m K b =
     let t = bit_and b 0x7f_ffff in
     let h : t < 2 ^ 23 = mask_lt b 23 in
     let r = range_reduction (t / 2 ^ 16) in
-    let R : Reduces r t = reduction-rule (t / 2 ^ 16) t (omega arith) h refl in
+    let R : Reduces r t = reduction_rule (t / 2 ^ 16) t (omega arith) h refl in
     let k = R.size in
     let N = (2 ^ 23 + t) * k in
     let lo : 2 ^ 31 - 2 ^ 23 ≤ N = R.product_least in

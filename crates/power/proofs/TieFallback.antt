@@ -1,6 +1,6 @@
 -- The fallback at the tie 2^-150 answers +0, the even one of its two neighbours. Assumes nothing.
 use Rattle.std.proofs.Common.{◌≡◌, ℕ, Bool, false, cond, ◌||◌, pos, negsuc, sym, refl, ap, ◌∙◌, subst, inr, arith, lit≤}
-use lib.Ieee.{Float, nan, fin, binary32, fits, of_bits, to_bits, to_unsigned, neg, sum, round, add, sub, eq, ne, size}
+use lib.Ieee.{Float, nan, fin, binary32, fits, of_bits, to_bits, to_unsigned, neg, sum, round, add, sub, eq, is_nan, size}
 use Rattle.std.specs.Float.{round_to_format}
 use Rattle.pairs.specs.declared.double_double.DoubleDouble.{DoubleDouble}
 use Rattle.pairs.specs.DoubleDouble as Pairs
@@ -10,12 +10,12 @@ use Rattle.power.specs.Rules.{ScalarRules, ProductRules, Rules, Number, Zero, Al
 use Rattle.power.specs.Lookup.{f64, powf_r2, log2_r_td, log2_r2_dd, exp2_mid}
 use Rattle.power.specs.Reduction.{negative_one}
 use Rattle.power.specs.Fallback as Fallback
-use Rattle.power.specs.Fallback.{is_nan, either_nan, scale_pair, ordered_add, dx2}
+use Rattle.power.specs.Fallback.{either_nan, scale_pair, ordered_add, dx2}
 use Rattle.power.specs.declared.fast.Doubt.{Doubt}
 use Rattle.power.specs.Lemmas.Unique.{is-alike}
 use Rattle.power.specs.Lemmas.Alike.{IsZero, zero-within, alike-zero, alike-other}
 use Rattle.power.specs.Lemmas.Zeros.{plus, nought-zero, plus-zero}
-use Rattle.power.proofs.FloatTests.{ne-itself, not-nan, eq-zero}
+use Rattle.power.proofs.FloatTests.{number-is, not-nan, eq-zero}
 use Rattle.power.specs.Lemmas.ZeroProducts.{fma-zero-left}
 use Rattle.power.proofs.ZeroPairs.{Stays, zeros_within, exact-add-zero, ordered-zeros}
 use Rattle.power.proofs.ZeroPolynomials.{six-zero, ten-zero, pairs-at-zero}
@@ -90,7 +90,7 @@ neither : (x y : Float) → Zero x → Zero y → either_nan x y ≡ false
 neither x y X Y = λ i. number x X i || number y Y i
   where
     number : (x : Float) → Zero x → is_nan x ≡ false
-    number x X = ne-itself x (not-nan Zero (λ z. z) x X)
+    number x X = number-is x (not-nan Zero (λ z. z) x X)
 
 abbrev nought : Float
 nought = f64 0
@@ -123,7 +123,7 @@ tiny-within = (tiny-number, inr (lit≤ tt, lit≤ tt))
 
 -- a high part 2^-150 stays where the low part is zero
 settled-tiny : (r : DoubleDouble) → Zero r.lo → r.hi ≡ tiny → Fallback.settled r ≡ tiny
-unfolding Fallback.settled ne eq of_bits to_bits size
+unfolding Fallback.settled is_nan eq of_bits to_bits size
 settled-tiny r Z e =
     ap (λ (h : Float). Fallback.settled (pair r.lo h)) e
     ∙ ap (λ (q : Bool). cond q tiny (cond (is_nan r.lo) nan (Fallback.nudged tiny r.lo))) (eq-zero r.lo Z)

@@ -1,5 +1,5 @@
 -- The power in pairs of doubles, where the fast path leaves its last bit open.
-use Rattle.std.specs.Prelude.{ℕ, ◌+◌, ◌-◌, ◌/◌, ◌%◌, ◌^◌, Bool, cond, not, ◌||◌, ◌==◌, bit_and, nat_le, nat_lt, Float}
+use Rattle.std.specs.Prelude.{ℕ, ◌+◌, ◌-◌, ◌/◌, ◌%◌, ◌^◌, Bool, cond, not, ◌||◌, ◌==◌, bit_and, nat_le, nat_lt, is_nan, Float}
 use Rattle.std.specs.Float.Ieee as Ieee
 use Rattle.std.specs.Float.{round_to_format, binary32, binary64, nan}
 use Rattle.pairs.specs.Bits.{exponent_field}
@@ -17,9 +17,6 @@ zero = f64 0
 
 abbrev one : Float
 one = f64 0x3ff0_0000_0000_0000
-
-abbrev pub is_nan : Float → Bool
-is_nan x = Ieee.ne x x
 
 abbrev pub either_nan : Float → Float → Bool
 either_nan a b = is_nan a || is_nan b

@@ -1,16 +1,14 @@
 -- The power of a positive f32 in f64: 2^(y log2 x) by tables and polynomials, and the rounding test.
-use Rattle.std.specs.Prelude.{ℕ, ◌+◌, ◌-◌, ◌*◌, ◌/◌, ◌%◌, ◌^◌, false, cond, bit_and, Float}
+use Rattle.std.specs.Prelude.{ℕ, ◌+◌, ◌-◌, ◌*◌, ◌/◌, ◌%◌, ◌^◌, false, cond, bit_and, is_nan, Float, Result, Ok, Err}
 use Rattle.std.specs.Float.Ieee as Ieee
 use Rattle.std.specs.Float.Ieee.{neg}
 use Rattle.std.specs.Float.{round_to_format, float_with_sign, binary32, binary64, nan}
 use Rattle.power.specs.Backend.{Scalar}
 use Rattle.power.specs.Lookup.{f64, log2_r, log2_r_td, exp2_mid}
 use Rattle.power.specs.Polynomial.{six, on_f64}
-use Rattle.power.specs.Reduction.{f32, normalize, reduce, Placed}
+use Rattle.power.specs.Reduction.{f32, normalize, reduce}
 use Rattle.power.specs.declared.reduction.Reduced.{Reduced}
 use Rattle.power.specs.declared.fast.Doubt.{Doubt}
-use Rattle.power.specs.declared.fast.Outcome.{Outcome}
-use Rattle.power.specs.declared.fast.Outcome.TheVariants.{Sure, Open}
 
 abbrev plus : Float → Float → Float
 plus = Ieee.add binary64
@@ -68,22 +66,17 @@ abbrev pub lower : ℕ → Float → Float
 lower err r = round_to_format binary32 (f64 ((Ieee.to_bits binary64 r + 2 ^ 64 - err) % 2 ^ 64))
 
 -- r, where its neighbours round alike
-abbrev pub tested : ℕ → Float → Doubt → Outcome
+abbrev pub tested : ℕ → Float → Doubt → Result Float Doubt
 tested err r d =
-    cond (Ieee.ne r r) (Sure nan)
-    (cond (Ieee.eq (upper err r) (lower err r)) (Sure (upper err r)) (Open d))
+    cond (is_nan r) (Ok nan)
+    (cond (Ieee.eq (upper err r) (lower err r)) (Ok (upper err r)) (Err d))
 
-unfoldable pub fast : Scalar → Float → Float → Outcome
+unfoldable pub fast : Scalar → Float → Float → Result Float Doubt
 fast m x y =
     let r = reduce m (normalize x) in
     let y6 = y64 y in
     let h = m.round (times (log m r) y6) in
     let high = rest_high m r y6 h in
     let k = count h in
-    cond (Ieee.ne h h) (Sure nan)
+    cond (is_nan h) (Ok nan)
     (tested m.err (times (exp_poly m (rest m r y6 high)) (scale k)) (record { reduced = r; y6 = y6; high = high; count = k }))
-
--- a power that is left open can be worked out further
-abbrev pub Workable : Outcome → Type 0
-Workable (Sure v) = Unit {0}
-Workable (Open d) = Placed d.reduced

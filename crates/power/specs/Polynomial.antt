@@ -1,6 +1,6 @@
 -- The polynomials, over any arithmetic that multiplies and multiply-adds.
 use Rattle.std.specs.Float.Ieee as Ieee
-use Rattle.std.specs.Prelude.{Float}
+use Rattle.std.specs.Prelude.{ℕ, List, slice_index_or, Float}
 use Rattle.std.specs.Float.{binary64}
 use Rattle.pairs.specs.declared.double_double.DoubleDouble.{DoubleDouble}
 use Rattle.pairs.specs.DoubleDouble.{plus_product}
@@ -31,3 +31,10 @@ ten o x a0 a1 a2 a3 a4 a5 a6 a7 a8 a9 =
     let q0 = o.times_add x2 (o.times_add x a3 a2) (o.times_add x a1 a0) in
     let q1 = o.times_add x2 (o.times_add x a7 a6) (o.times_add x a5 a4) in
     o.times_add x8 (o.times_add x a9 a8) (o.times_add x4 q1 q0)
+
+-- over a list of coefficients, from the constant term up
+abbrev pub six_of : {A : Type 0} → Ops A → A → List A → A
+six_of {A} o x a = let at : ℕ → A = λ i. slice_index_or a i x in six o x (at 0) (at 1) (at 2) (at 3) (at 4) (at 5)
+
+abbrev pub ten_of : {A : Type 0} → Ops A → A → List A → A
+ten_of {A} o x a = let at : ℕ → A = λ i. slice_index_or a i x in ten o x (at 0) (at 1) (at 2) (at 3) (at 4) (at 5) (at 6) (at 7) (at 8) (at 9)

@@ -1,5 +1,5 @@
 -- The power of any two f32, on a backend.
-use Rattle.std.specs.Prelude.{cond, ◌||◌, Float}
+use Rattle.std.specs.Prelude.{cond, ◌||◌, is_nan, Float, Result, Ok, Err}
 use Rattle.std.specs.Float.Ieee as Ieee
 use Rattle.std.specs.Float.Ieee.{neg}
 use Rattle.std.specs.Float.{float_is_infinite, sqrt, binary32, nan}
@@ -9,8 +9,7 @@ use Rattle.power.specs.Special.{zero, one, signed, infinite_exponent, infinite_b
 use Rattle.power.specs.Whole.{whole_power, multiplies}
 use Rattle.power.specs.Fast.{fast}
 use Rattle.power.specs.Fallback.{fallback}
-use Rattle.power.specs.declared.fast.Outcome.{Outcome}
-use Rattle.power.specs.declared.fast.Outcome.TheVariants.{Sure, Open}
+use Rattle.power.specs.declared.fast.Doubt.{Doubt}
 
 -- a larger exponent overflows or underflows all the same: beyond ±0x4f170000 it counts as ±2^32
 abbrev pub bounded : Float → Float
@@ -19,9 +18,9 @@ bounded y =
     let far = f32 0x4f80_0000 in
     cond (Ieee.lt end y) far (cond (Ieee.lt y (neg end)) (neg far) y)
 
-abbrev pub decided : Arithmetic → Outcome → Float
-decided m (Sure v) = v
-decided m (Open d) = fallback m d
+abbrev pub decided : Arithmetic → Result Float Doubt → Float
+decided m (Ok v) = v
+decided m (Err d) = fallback m d
 
 unfoldable pub general : Arithmetic → Float → Float → Float
 general m x y = decided m (fast m.scalar x (bounded y))
@@ -45,7 +44,7 @@ ordinary m x y =
 unfoldable pub power : Arithmetic → Float → Float → Float
 power m x y =
     cond (Ieee.eq y zero || Ieee.eq x one) one
-    (cond (Ieee.ne x x || Ieee.ne y y) nan
+    (cond (is_nan x || is_nan y) nan
     (cond (float_is_infinite y) (infinite_exponent x y)
     (cond (float_is_infinite x) (infinite_base m.scalar x y)
     (cond (Ieee.eq x zero) (zero_base m.scalar x y)

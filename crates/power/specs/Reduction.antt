@@ -69,7 +69,3 @@ pub record Small (x : Float) : Type 0 where
   pub size : ℕ
   pub is : Is x minus size (2 ^ 31)
   pub bound : cond minus (size ≤ 2 ^ 23) (size < 2 ^ 24)
-
--- what the tables are read by
-abbrev pub Placed : Reduced → Type 0
-Placed r = (r.index < 128) × Small r.dx

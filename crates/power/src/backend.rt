@@ -5,7 +5,8 @@ ghost use Rattle.power.specs.Rules as Rules;
 
 use pairs::double_double::DoubleDouble;
 
-// `meaning` is what the functions compute; its author shows `rules`.
+// `meaning` is what the functions compute; its author shows `rules`. No function has a body here: it
+// could not be proved of every meaning.
 pub trait PowfBackend {
     ghost meaning: { Self → Arithmetic };
 

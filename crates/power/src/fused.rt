@@ -10,10 +10,13 @@ ghost use Rattle.power.specs.Lemmas.FusedRule.{fused-rule};
 use crate::backend::PowfBackend;
 use pairs::double_double::{DoubleDouble, Fma};
 use pairs::fused::fused_sum;
+use pairs::rounding::round;
+use pairs::whole::{is_integerf, is_odd_integerf};
 
 #[derive(Clone, Copy)]
 pub struct Fused {}
 
+// One call in each of the two traits: the pairs know no backend.
 impl Fma for Fused {
     ghost fused = { λ _. fused_sum };
 
@@ -42,16 +45,18 @@ impl PowfBackend for Fused {
         fused_sum(x, y, z)
     }
 
+    // These three are one call each on both backends. A body in the trait could not be proved of every
+    // meaning, and a wrapper with a second trait would say more than it saves.
     fn integerf(&self, y: f32) -> bool {
-        pairs::whole::is_integerf(y)
+        is_integerf(y)
     }
 
     fn odd_integerf(&self, y: f32) -> bool {
-        pairs::whole::is_odd_integerf(y)
+        is_odd_integerf(y)
     }
 
     fn round(&self, x: f64) -> f64 {
-        pairs::rounding::round(x)
+        round(x)
     }
 
     fn quick_mult(&self, x: DoubleDouble, y: DoubleDouble) -> DoubleDouble {

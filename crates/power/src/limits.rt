@@ -2,7 +2,9 @@
 ghost use Rattle.std.specs.Prelude.{◌≡◌};
 ghost use Rattle.power.specs.Limits.{Limits, table};
 
-// The bit patterns of x, y and x^y on the portable backend: each power is proved.
+// The bit patterns of x, y and x^y on the portable backend: each power is proved. A table of tuples, taken
+// apart where it is read.
+#[tactic(auto, using(crate::proofs::Computed::limits))]
 pub fn limits() -> [(u32, u32, u32); 11]
     ensures entries { result ≡ table }
     ensures powers { Limits }

@@ -1,6 +1,6 @@
 // The polynomials, written once for every arithmetic that multiplies and multiply-adds.
 ghost use Rattle.std.specs.Prelude.{◌≡◌};
-ghost use Rattle.power.specs.Polynomial.{Ops, on_f64, on_pairs, six, ten};
+ghost use Rattle.power.specs.Polynomial.{Ops, on_f64, on_pairs, six_of, ten_of};
 
 use crate::backend::PowfBackend;
 use pairs::double_double::DoubleDouble;
@@ -37,25 +37,16 @@ impl<B: PowfBackend> Number<B> for DoubleDouble {
     }
 
     fn times_add(self, y: DoubleDouble, z: DoubleDouble, backend: &B) -> DoubleDouble {
-        let h = backend.quick_mult(self, y);
-        let p = DoubleDouble::add_f64(z, h.hi);
-        DoubleDouble::new(h.lo + p.lo, p.hi)
+        DoubleDouble::plus_product(backend.quick_mult(self, y), z)
     }
 }
 
-// a0 + a1 x + .. + a5 x^5.
-pub(crate) fn polyeval6<B, N: Number<B>>(
-    x: N,
-    a0: N,
-    a1: N,
-    a2: N,
-    a3: N,
-    a4: N,
-    a5: N,
-    backend: &B,
-) -> N
-    ensures { result ≡ six (N.Number.ops backend.now) x a0 a1 a2 a3 a4 a5 }
+// a0 + a1 x + .. + a5 x^5. The two lengths differ in the order of operations, on which the bits depend.
+#[tactic(auto, using(std::proofs::lemmas::List::get_or_default), unfolding(crate::specs::Polynomial::six))]
+pub(crate) fn polyeval6<B, N: Number<B>>(x: N, a: [N; 6], backend: &B) -> N
+    ensures { result ≡ six_of (N.Number.ops backend.now) x a }
 {
+    let [a0, a1, a2, a3, a4, a5] = a;
     let q = x.times(x, backend);
     let c0 = x.times_add(a1, a0, backend);
     let c1 = x.times_add(a3, a2, backend);
@@ -64,22 +55,11 @@ pub(crate) fn polyeval6<B, N: Number<B>>(
 }
 
 // a0 + a1 x + .. + a9 x^9.
-pub(crate) fn polyeval10<B, N: Number<B>>(
-    x: N,
-    a0: N,
-    a1: N,
-    a2: N,
-    a3: N,
-    a4: N,
-    a5: N,
-    a6: N,
-    a7: N,
-    a8: N,
-    a9: N,
-    backend: &B,
-) -> N
-    ensures { result ≡ ten (N.Number.ops backend.now) x a0 a1 a2 a3 a4 a5 a6 a7 a8 a9 }
+#[tactic(auto, using(std::proofs::lemmas::List::get_or_default), unfolding(crate::specs::Polynomial::ten))]
+pub(crate) fn polyeval10<B, N: Number<B>>(x: N, a: [N; 10], backend: &B) -> N
+    ensures { result ≡ ten_of (N.Number.ops backend.now) x a }
 {
+    let [a0, a1, a2, a3, a4, a5, a6, a7, a8, a9] = a;
     let x2 = x.times(x, backend);
     let x4 = x2.times(x2, backend);
     let x8 = x4.times(x4, backend);

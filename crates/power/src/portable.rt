@@ -8,6 +8,8 @@ ghost use Rattle.power.specs.Lemmas.PairProducts.{quick-zero-left, quick-zero-ri
 
 use crate::backend::PowfBackend;
 use pairs::double_double::DoubleDouble;
+use pairs::rounding::round;
+use pairs::whole::{is_integerf, is_odd_integerf};
 
 #[derive(Clone, Copy)]
 pub struct Portable {}
@@ -38,16 +40,18 @@ impl PowfBackend for Portable {
         x * y + z
     }
 
+    // These three are one call each on both backends. A body in the trait could not be proved of every
+    // meaning, and a wrapper with a second trait would say more than it saves.
     fn integerf(&self, y: f32) -> bool {
-        pairs::whole::is_integerf(y)
+        is_integerf(y)
     }
 
     fn odd_integerf(&self, y: f32) -> bool {
-        pairs::whole::is_odd_integerf(y)
+        is_odd_integerf(y)
     }
 
     fn round(&self, x: f64) -> f64 {
-        pairs::rounding::round(x)
+        round(x)
     }
 
     fn quick_mult(&self, x: DoubleDouble, y: DoubleDouble) -> DoubleDouble {

@@ -1,4 +1,5 @@
-// The power of any two f32.
+// The power of any two f32. The stages hand on x, y and the backend as the reference's do: a struct of
+// the three would be taken apart in each.
 ghost use Rattle.std.specs.Prelude.{◌≡◌};
 ghost use Rattle.std.specs.Float.Ieee.{neg};
 ghost use Rattle.power.specs.Powf as Powf;
@@ -8,9 +9,9 @@ ghost use Rattle.power.specs.Opposites.{Opposite};
 
 use crate::backend::PowfBackend;
 use crate::fallback::fallback;
-use crate::fast::{Outcome, fast};
-use crate::special::{infinite_base, infinite_exponent, not_a_number, signed, zero_base};
-use crate::whole::{multiplies, whole_power};
+use crate::fast::fast;
+use crate::special::{infinite_base, infinite_exponent, signed, zero_base};
+use crate::whole::whole_power;
 use pairs::root::sqrtf;
 
 fn bounded(y: f32) -> f32
@@ -25,16 +26,15 @@ fn bounded(y: f32) -> f32
     }
 }
 
+#[tactic(auto, unfolding(crate::specs::Powf::general))]
 fn general<B: PowfBackend>(x: f32, y: f32, backend: &B) -> f32
     ensures { result ≡ Powf.general (B.PowfBackend.meaning backend.now) x y }
 {
-    match fast(x, bounded(y), backend) {
-        Outcome::Sure(r) => r,
-        Outcome::Open(doubt) => fallback(doubt, backend),
-    }
+    fast(x, bounded(y), backend).unwrap_or_else(|doubt| fallback(doubt, backend))
 }
 
 // x is positive and finite, y is finite and not zero.
+#[tactic(auto, unfolding(crate::specs::Powf::magnitude))]
 fn magnitude<B: PowfBackend>(x: f32, y: f32, backend: &B) -> f32
     ensures { result ≡ Powf.magnitude (B.PowfBackend.meaning backend.now) x y }
 {
@@ -44,14 +44,13 @@ fn magnitude<B: PowfBackend>(x: f32, y: f32, backend: &B) -> f32
         x * x
     } else if y == 0.5 {
         sqrtf(x)
-    } else if multiplies(x, y, backend) {
-        whole_power(x, y)
     } else {
-        general(x, y, backend)
+        whole_power(x, y, backend).unwrap_or_else(|| general(x, y, backend))
     }
 }
 
 // x and y are finite and not zero.
+#[tactic(auto, unfolding(crate::specs::Powf::ordinary, std::specs::Prelude::from_bits))]
 fn ordinary<B: PowfBackend>(x: f32, y: f32, backend: &B) -> f32
     ensures { result ≡ Powf.ordinary (B.PowfBackend.meaning backend.now) x y }
 {
@@ -59,21 +58,22 @@ fn ordinary<B: PowfBackend>(x: f32, y: f32, backend: &B) -> f32
         if backend.integerf(y) {
             signed(backend.odd_integerf(y), magnitude(-x, y, backend))
         } else {
-            not_a_number()
+            f32::NAN
         }
     } else {
         magnitude(x, y, backend)
     }
 }
 
+#[tactic(auto, unfolding(crate::specs::Powf::power, std::specs::Prelude::from_bits))]
 fn powf_gen<B: PowfBackend>(x: f32, y: f32, backend: &B) -> f32
     ensures { result ≡ Powf.power (B.PowfBackend.meaning backend.now) x y }
 {
     if y == 0.0 || x == 1.0 {
         return 1.0;
     }
-    if x != x || y != y {
-        return not_a_number();
+    if x.is_nan() || y.is_nan() {
+        return f32::NAN;
     }
     if y.is_infinite() {
         return infinite_exponent(x, y);

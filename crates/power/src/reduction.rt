@@ -1,11 +1,12 @@
 // The first reduction of a positive x: x = 2^exponent m with m from 1 to below 2, and
 // m r = 1 + dx for the table's r, so that log2 x = exponent - log2 r + log2 (1 + dx).
-ghost use Rattle.std.specs.Prelude.{◌≡◌, ◌<◌};
+ghost use Rattle.std.specs.Prelude.{◌≡◌};
 ghost use Rattle.power.specs.Reduction as Reduction;
 
 use crate::backend::PowfBackend;
-use crate::lookup::{f64_of, range_reduction};
+use crate::lookup::{Place, f64_of, range_reduction};
 use crate::polynomial::polyeval6;
+use std::marker::Model;
 
 // The bits of a normal x, and what its exponent field exceeds the exponent by.
 #[derive(Clone, Copy)]
@@ -14,16 +15,46 @@ pub struct Scaled {
     pub bias: f64,
 }
 
+// m r - 1: a value of f64 from -2^-8 to below 2^-7, and a multiple of 2^-31.
+#[derive(Clone, Copy)]
+pub struct Argument {
+    value: f64,
+}
+
+// Clauses see the number.
+impl Model for Argument {
+    ghost use Rattle.std.specs.Prelude.{Float};
+
+    ghost Value = { Float };
+
+    ghost use Rattle.power.specs.Reduction.{Small};
+
+    ghost view = { λ a. a.value };
+
+    ghost invariant = { λ a. Small a.value };
+
+    ghost inverse = { λ x. record { value = x } };
+}
+
+impl Argument {
+    pub(crate) fn value(self) -> f64
+        ensures { result ≡ self }
+    {
+        self.value
+    }
+}
+
 // `p` is log2 (1 + dx) / dx, nearly.
 #[derive(Clone, Copy)]
 pub struct Reduced {
-    pub index: usize,
+    pub index: Place<128>,
     pub exponent: f64,
-    pub dx: f64,
+    pub dx: Argument,
     pub p: f64,
 }
 
 // A subnormal x is scaled by 2^64.
+#[tactic(auto, unfolding(crate::specs::Reduction::normalize))]
 pub(crate) fn normalize(x: f32) -> Scaled
     ensures { result ≡ Reduction.normalize x }
 {
@@ -40,63 +71,68 @@ pub(crate) fn normalize(x: f32) -> Scaled
     }
 }
 
-fn exponent(b: Scaled) -> f64
-    ensures { result ≡ Reduction.exponent b }
+fn index(bits: u32) -> Place<128>
+    ensures { result ≡ Reduction.index bits }
 {
-    ((b.bits >> 23) & 0xff) as f64 - b.bias
-}
-
-fn index(bits: u32) -> usize
-    ensures value { result ≡ Reduction.index bits }
-    ensures bound { result < 128 }
-{
-    ((bits & 0x7f_ffff) >> 16) as usize
+    Place::new(((bits & 0x7f_ffff) >> 16) as usize)
 }
 
 fn significand(bits: u32) -> f64
     ensures { result ≡ Reduction.significand bits }
 {
-    f64_of((((bits & 0x7f_ffff) as u64) << 29) | 0x3ff0_0000_0000_0000)
+    f64_of((u64::from(bits & 0x7f_ffff) << 29) | 0x3ff0_0000_0000_0000)
 }
 
 // m r - 1, exact.
-fn reduced_argument<B: PowfBackend>(bits: u32, backend: &B) -> f64
+#[tactic(auto, using(crate::proofs::Range::first_range), unfolding(crate::specs::Reduction::dx))]
+fn reduced_argument<B: PowfBackend>(bits: u32, backend: &B) -> Argument
     ensures { result ≡ Reduction.dx (B.PowfBackend.meaning backend.now).scalar bits }
 {
-    backend.fma(significand(bits), range_reduction(index(bits)), -1.0)
+    Argument {
+        value: backend.fma(significand(bits), range_reduction(index(bits)), -1.0),
+    }
 }
 
+// log2 (1 + dx) / dx, as bit patterns from the constant term up.
+const LOG_POLY: [u64; 6] = [
+    0x3ff7_1547_652b_82fe,
+    0xbfe7_1547_652b_7a07,
+    0x3fde_c709_dc45_8db1,
+    0xbfd7_1547_9c22_66c9,
+    0x3fd2_776a_e1dd_f8f0,
+    0xbfce_7b21_7887_0157,
+];
+
+// One line over `polyeval6`, to tie this list of coefficients to its definition.
 fn log_poly<B: PowfBackend>(dx: f64, backend: &B) -> f64
     ensures { result ≡ Reduction.log_poly (B.PowfBackend.meaning backend.now).scalar dx }
 {
-    polyeval6(
-        dx,
-        f64_of(0x3ff7_1547_652b_82fe),
-        f64_of(0xbfe7_1547_652b_7a07),
-        f64_of(0x3fde_c709_dc45_8db1),
-        f64_of(0xbfd7_1547_9c22_66c9),
-        f64_of(0x3fd2_776a_e1dd_f8f0),
-        f64_of(0xbfce_7b21_7887_0157),
-        backend,
-    )
+    polyeval6(dx, LOG_POLY.map(f64_of), backend)
 }
 
-pub(crate) fn reduce<B: PowfBackend>(b: Scaled, backend: &B) -> Reduced
-    ensures value { result ≡ Reduction.reduce (B.PowfBackend.meaning backend.now).scalar b }
-    ensures placed { Reduction.Placed result }
-{
-    let dx = reduced_argument(b.bits, backend);
-    Reduced {
-        index: index(b.bits),
-        exponent: exponent(b),
-        dx,
-        p: log_poly(dx, backend),
+impl Scaled {
+    fn exponent(self) -> f64
+        ensures { result ≡ Reduction.exponent self }
+    {
+        f64::from((self.bits >> 23) & 0xff) - self.bias
+    }
+
+    #[tactic(auto, unfolding(crate::specs::Reduction::reduce))]
+    pub(crate) fn reduce<B: PowfBackend>(self, backend: &B) -> Reduced
+        ensures { result ≡ Reduction.reduce (B.PowfBackend.meaning backend.now).scalar self }
+    {
+        let dx = reduced_argument(self.bits, backend);
+        Reduced {
+            index: index(self.bits),
+            exponent: self.exponent(),
+            dx,
+            p: log_poly(dx.value(), backend),
+        }
     }
 }
 
 // The contract is the rule that the table of r's keeps to; the body computes nothing.
-pub fn range_rule() -> u8
+#[tactic(auto, using(crate::proofs::Range::reduction_rule))]
+pub fn range_rule()
     ensures { Reduction.ReductionRule }
-{
-    0
-}
+{}

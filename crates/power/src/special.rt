@@ -1,15 +1,8 @@
 // The answers at zeros, infinities and NaN.
 ghost use Rattle.std.specs.Prelude.{◌≡◌};
-ghost use Rattle.std.specs.Float.{nan};
 ghost use Rattle.power.specs.Special as Special;
 
 use crate::backend::PowfBackend;
-
-pub(crate) fn not_a_number() -> f32
-    ensures { result ≡ nan }
-{
-    f32::NAN
-}
 
 pub(crate) fn signed(negative: bool, x: f32) -> f32
     ensures { result ≡ Special.signed negative x }
@@ -53,6 +46,7 @@ pub(crate) fn zero_base<B: PowfBackend>(x: f32, y: f32, backend: &B) -> f32
     if y < 0.0 {
         return f32::INFINITY;
     }
+    // by the pattern: `is_sign_negative` asks that x is no NaN, which is not asked here
     let negative = std::num::f32_to_bits_with_nan(x) == 0x8000_0000;
     signed(negative && keeps_sign(y, backend), 0.0)
 }

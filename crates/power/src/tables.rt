@@ -1,4 +1,5 @@
-// The tables, as bit patterns of f64, from the published crate.
+// The tables, as bit patterns of f64, from the published crate. Those that one index reads stay apart as
+// they do there, so that each can be set beside its source.
 
 // r, at most eight significant bits, for a significand whose top seven fraction bits are the index.
 pub(crate) static LOG_RANGE_REDUCTION: [u64; 128] = [

@@ -1,5 +1,6 @@
 // Whole exponents from 3 to 24: products in f64, rounded once to f32.
 ghost use Rattle.std.specs.Prelude.{◌≡◌};
+ghost use Rattle.std.specs.Bool.{then_some};
 ghost use Rattle.power.specs.Whole as Whole;
 
 use crate::backend::PowfBackend;
@@ -11,11 +12,7 @@ fn product(x: f32, n: u32) -> f32
     ensures { result ≡ Whole.product x n }
 {
     let x_d = std::num::f32_to_f64_with_nan(x);
-    let mut result = x_d;
-    for i in 1..n {
-        result *= x_d;
-    }
-    narrow(result)
+    narrow((1..n).fold(x_d, |power, _| power * x_d))
 }
 
 fn small_whole<B: PowfBackend>(y: f32, backend: &B) -> bool
@@ -28,19 +25,17 @@ fn small_whole<B: PowfBackend>(y: f32, backend: &B) -> bool
 fn short(x: f32, n: u32) -> bool
     ensures { result ≡ Whole.short x n }
 {
-    significant_bits(x) as u64 * n as u64 <= 25 + 2 * n as u64
+    u64::from(significant_bits(x)) * u64::from(n) <= 25 + 2 * u64::from(n)
 }
 
-// Whether x^y is worked out by products.
-pub(crate) fn multiplies<B: PowfBackend>(x: f32, y: f32, backend: &B) -> bool
-    ensures { result ≡ Whole.multiplies (B.PowfBackend.meaning backend.now).scalar x y }
+// x^y by products, where they round once.
+pub(crate) fn whole_power<B: PowfBackend>(x: f32, y: f32, backend: &B) -> Option<f32>
+    ensures { result ≡ then_some (Whole.multiplies (B.PowfBackend.meaning backend.now).scalar x y) (Whole.whole_power x y) }
 {
-    small_whole(y, backend) && short(x, std::num::saturating_f32_to_u32(y))
-}
-
-// x^y by products.
-pub(crate) fn whole_power(x: f32, y: f32) -> f32
-    ensures { result ≡ Whole.whole_power x y }
-{
-    product(x, std::num::saturating_f32_to_u32(y))
+    // before y is converted, which most exponents need not be
+    if !small_whole(y, backend) {
+        return None;
+    }
+    let n = std::num::saturating_f32_to_u32(y);
+    short(x, n).then(|| product(x, n))
 }
