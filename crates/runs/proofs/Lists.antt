@@ -2,7 +2,7 @@
 use Rattle.std.proofs.Common.{◌≡◌, ℕ, zero, suc, Bool, true, false, cond, not, ◌&&◌, eqb, ◌⊎◌, List, [], ◌∷◌, length, get_or, set, is_some, Some, None, Option, sym, refl, ap, ◌∙◌, inl, inr, ⊎_elim}
 use Rattle.power.specs.Backend.{Arithmetic}
 use Rattle.std.proofs.lemmas.List.{get_or-set_other, nil_from_length}
-use Rattle.std.proofs.lemmas.Bool.{and_parts, cases_eq, eqb-false, eqb-true, or_cases, or_parts}
+use Rattle.std.proofs.lemmas.Bool.{and_parts, cases_eq, cond_both, eqb-false, eqb-true, or_cases, or_parts}
 use Rattle.strip.specs.Refusal.{left}
 use Rattle.strip.specs.Strip as Strips
 use Rattle.strip.specs.Strip.{refusal}
@@ -22,10 +22,6 @@ use Rattle.runs.specs.declared.state.AnyStrip.TheVariants.{Open, Finished}
 left-same : {X : Type 0} (o : Option Refusal) (x : X) → left o x x ≡ x
 left-same (Some e) x = refl
 left-same None x = refl
-
-cond_same : {X : Type 0} (t : Bool) (x : X) → cond t x x ≡ x
-cond_same true x = refl
-cond_same false x = refl
 
 module _ {B : Type 0} where
   empty-unspread : (any : AnyStrip B) (call : Call) → (is_spread call && (allows any call && not (is_some (refusal call (inside any) [])))) ≡ false
@@ -58,7 +54,7 @@ module _ {B : Type 0} where
     empty-stays any call =
         ap (λ cells. cond (allows any call) (left (refusal call (inside any) []) [] cells) []) (empty-made (inside any) call)
         ∙ ap (λ cells. cond (allows any call) cells []) (left-same (refusal call (inside any) []) [])
-        ∙ cond_same (allows any call) []
+        ∙ cond_both (allows any call) [] [] (λ cells. cells ≡ []) (λ _. refl) (λ _. refl)
 
 -- ---- lists where the one at n is altered by f, which leaves an empty list empty
 

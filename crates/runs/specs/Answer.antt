@@ -1,12 +1,8 @@
 -- What a call answers. Assumes nothing.
-use Rattle.std.specs.Prelude.{Bool, true, false, Some, None, Ok, Err, Option, Result}
+use Rattle.std.specs.Prelude.{Bool, true, false, Some, None, Option}
 use Rattle.strip.specs.declared.refusal.Refusal.{Refusal}
 use Rattle.runs.specs.declared.answer.Answer.{Answer}
 use Rattle.runs.specs.declared.answer.Answer.TheVariants.{NotAllowed, Refused, Count, Value, Patch, Done}
-
-abbrev pub of_result : {X : Type 0} → (X → Answer) → Result X Refusal → Answer
-of_result f (Ok x) = f x
-of_result f (Err e) = Refused e
 
 -- the refusal, or else the answer of the accepted call
 abbrev pub reply : Option Refusal → Answer → Answer

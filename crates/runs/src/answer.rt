@@ -1,6 +1,7 @@
 // What a call of a strip answers, as a value.
-ghost use Rattle.std.specs.Prelude.{◌≡◌};
+ghost use Rattle.std.specs.Prelude.{◌≡◌, MatchResult};
 ghost use Rattle.runs.specs.Answer as Spec;
+ghost use Rattle.runs.specs.declared.answer.Answer.TheVariants as Answers;
 
 use strip::patch::View;
 use strip::refusal::Refusal;
@@ -23,36 +24,49 @@ impl Answer {
     pub(crate) fn is_count(&self) -> bool
         ensures { result ≡ Spec.is_count self.now }
     {
-        match self {
-            Answer::Count(_) => true,
-            _ => false,
+        matches!(self, Answer::Count(_))
+    }
+}
+
+impl From<usize> for Answer {
+    ghost from_gives = { λ count answer. answer ≡ Answers.Count count };
+
+    fn from(count: usize) -> Answer {
+        Answer::Count(count)
+    }
+}
+
+impl From<f32> for Answer {
+    ghost from_gives = { λ value answer. answer ≡ Answers.Value value };
+
+    fn from(value: f32) -> Answer {
+        Answer::Value(value)
+    }
+}
+
+impl From<View> for Answer {
+    ghost from_gives = { λ view answer. answer ≡ Answers.Patch view };
+
+    fn from(view: View) -> Answer {
+        Answer::Patch(view)
+    }
+}
+
+impl From<Refusal> for Answer {
+    ghost from_gives = { λ refusal answer. answer ≡ Answers.Refused refusal };
+
+    fn from(refusal: Refusal) -> Answer {
+        Answer::Refused(refusal)
+    }
+}
+
+impl<T: Into<Answer>> From<Result<T, Refusal>> for Answer {
+    ghost from_gives = { λ outcome answer. MatchResult outcome (λ x. T.converts x answer) (λ refusal. answer ≡ Answers.Refused refusal) };
+
+    fn from(outcome: Result<T, Refusal>) -> Answer {
+        match outcome {
+            Ok(accepted) => accepted.into(),
+            Err(refusal) => refusal.into(),
         }
-    }
-}
-
-pub(crate) fn count(outcome: Result<usize, Refusal>) -> Answer
-    ensures { result ≡ Spec.of_result Answer.Count outcome }
-{
-    match outcome {
-        Ok(n) => Answer::Count(n),
-        Err(refusal) => Answer::Refused(refusal),
-    }
-}
-
-pub(crate) fn value(outcome: Result<f32, Refusal>) -> Answer
-    ensures { result ≡ Spec.of_result Answer.Value outcome }
-{
-    match outcome {
-        Ok(x) => Answer::Value(x),
-        Err(refusal) => Answer::Refused(refusal),
-    }
-}
-
-pub(crate) fn patch(outcome: Result<View, Refusal>) -> Answer
-    ensures { result ≡ Spec.of_result Answer.Patch outcome }
-{
-    match outcome {
-        Ok(view) => Answer::Patch(view),
-        Err(refusal) => Answer::Refused(refusal),
     }
 }

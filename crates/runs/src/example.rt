@@ -24,6 +24,7 @@ pub fn worked_lists(heap: Global) -> Result<Vec<Vec<Patch>>, AllocError>
     Ok(vec![in heap; four, three]?)
 }
 
+// Two words for the two cases of `Handed`: one function would spell the case out in each of 18 steps.
 fn on_own(call: Call) -> Step
     ensures { result ≡ Example.on_own call }
 {
@@ -101,6 +102,7 @@ pub fn worked_run<B: PowfBackend>(backend: &B) -> [Step; 18]
     ensures steps { result ≡ Example.steps }
     ensures proper { ProperRun B.PowfBackend.meaning (start backend.now Example.lists) result }
 {
+    // Only the clause `proper` speaks of it: the steps are the same on each.
     let _ = backend;
     worked_steps()
 }

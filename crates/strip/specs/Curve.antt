@@ -3,6 +3,7 @@ use Rattle.std.specs.Prelude.{ℕ, cond, List, replicate, Some, None, Option, fr
 use Rattle.std.specs.Float.{binary32}
 use Rattle.strip.specs.declared.curve.Curve.{Curve}
 use Rattle.strip.specs.declared.curve.Curves.{Curves}
+use Rattle.strip.specs.declared.curve.Numbered.{Numbered}
 
 -- the curve of a number in a table of sixteen; none is above 15
 abbrev pub in_table : List (Option Curve) → ℕ → Option Curve
@@ -16,6 +17,10 @@ level = record { exponent = from_bits binary32 0 }
 abbrev pub counted : Option Curve → Curve
 counted None = level
 counted (Some c) = c
+
+-- curve k, which is c
+abbrev pub numbered : ℕ → Curve → Numbered
+numbered k c = record { number = k; curve = c }
 
 -- what a reading shows under a curve: its power p by the exponent
 abbrev pub shown : (p : Float → Float → Float) → Curve → (reading : Float) → Float

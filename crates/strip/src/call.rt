@@ -1,4 +1,4 @@
-// The calls of a strip, as values.
+// The calls of a strip, as values: runs are lists of them, and the law speaks of each.
 
 #[derive(Clone, Copy)]
 pub enum Call {

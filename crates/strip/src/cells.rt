@@ -3,7 +3,7 @@ ghost use Rattle.std.specs.Prelude.{◌≡◌};
 ghost use Rattle.power.specs.Powf.{power};
 ghost use Rattle.strip.specs.Cells as Cells;
 
-use crate::curve::Curve;
+use crate::curve::Numbered;
 use crate::patch::Patch;
 use power::backend::PowfBackend;
 
@@ -11,38 +11,28 @@ use power::backend::PowfBackend;
 pub(crate) fn clear(cells: &mut [Patch])
     ensures { cells.new ≡ Cells.cleared cells.old }
 {
-    for cell in cells.iter_mut() {
-        *cell = Patch::empty();
-    }
-}
-
-// Reworks the filled patches under a curve that was set, and answers how many they are.
-pub(crate) fn rework<B: PowfBackend>(
-    cells: &mut [Patch],
-    number: u32,
-    curve: Curve,
-    backend: &B,
-) -> usize
-    ensures cells { cells.new ≡ Cells.all_reworked (power (B.PowfBackend.meaning backend.now)) number curve cells.old }
-    ensures answer { result ≡ Cells.users number cells.old }
-{
-    let mut count = 0;
-    for cell in cells.iter_mut() {
-        if cell.is_under(number) {
-            cell.shown = curve.shown(cell.reading, backend);
-            count += 1;
-        }
-    }
-    count
+    cells.fill(Patch::empty());
 }
 
 // How many filled patches are under a curve.
 pub(crate) fn users(cells: &[Patch], curve: u32) -> usize
     ensures { result ≡ Cells.users curve cells.now }
 {
+    cells.iter().filter(|cell| cell.is_under(curve)).count()
+}
+
+// Reworks the filled patches under a curve that was set, and answers how many they are.
+pub(crate) fn rework<B: PowfBackend>(cells: &mut [Patch], set: Numbered, backend: &B) -> usize
+    ensures cells { cells.new ≡ Cells.all_reworked (power (B.PowfBackend.meaning backend.now)) set.number set.curve cells.old }
+    ensures answer { result ≡ Cells.users set.number cells.old }
+{
+    // One pass, which writes to the patches under the curve alone: a count beside it, and a write to each
+    // cell, took five times as long where few are. After an adapter of `iter_mut` nothing is known of the cells.
+    let Numbered { number, curve } = set;
     let mut count = 0;
-    for cell in cells {
-        if cell.is_under(curve) {
+    for cell in cells.iter_mut() {
+        if cell.is_under(number) {
+            cell.shown = curve.shown(cell.reading, backend);
             count += 1;
         }
     }

@@ -1,5 +1,5 @@
 // The sixteen curves of a strip.
-ghost use Rattle.std.specs.Prelude.{◌≡◌, ◌<◌, Some, None};
+ghost use Rattle.std.specs.Prelude.{◌≡◌, ◌<◌};
 ghost use Rattle.strip.specs.Curve as Spec;
 ghost use Rattle.power.specs.Powf.{power};
 
@@ -10,6 +10,13 @@ use power::powf::f_powf;
 #[derive(Clone, Copy)]
 pub struct Curve {
     pub exponent: f32,
+}
+
+// A curve with the number that patches name it by.
+#[derive(Clone, Copy)]
+pub(crate) struct Numbered {
+    pub(crate) number: u32,
+    pub(crate) curve: Curve,
 }
 
 // The curves by number, each unset or set.
@@ -38,19 +45,16 @@ impl Curves {
     pub(crate) fn get(&self, curve: u32) -> Option<Curve>
         ensures { result ≡ Spec.in_table self.now.table curve }
     {
-        if curve > 15 {
-            return None;
-        }
-        self.table[curve as usize]
+        self.table.get(curve as usize).copied().flatten()
     }
 
     // The curve of a number, and the one of exponent 0 where it is unset or above 15.
-    pub(crate) fn counted(&self, curve: u32) -> Curve
-        ensures { result ≡ Spec.counted (Spec.in_table self.now.table curve) }
+    pub(crate) fn counted(&self, number: u32) -> Numbered
+        ensures { result ≡ Spec.numbered number (Spec.counted (Spec.in_table self.now.table number)) }
     {
-        match self.get(curve) {
-            Some(set) => set,
-            None => Curve { exponent: 0.0 },
+        Numbered {
+            number,
+            curve: self.get(number).unwrap_or(Curve { exponent: 0.0 }),
         }
     }
 

@@ -3,9 +3,11 @@ ghost use Rattle.std.specs.Prelude.{◌≡◌};
 ghost use Rattle.power.specs.Powf.{power};
 ghost use Rattle.strip.specs.Patch as Spec;
 
-use crate::curve::Curve;
+use crate::curve::Numbered;
 use power::backend::PowfBackend;
 
+// The flag stands beside the values: a cell is a flat record that callers lend in place, and an empty one
+// holds +0, curve 0 and +0, of which an Option would say nothing. `view` gives the Option.
 #[derive(Clone, Copy)]
 pub struct Patch {
     pub filled: bool,
@@ -34,20 +36,15 @@ impl Patch {
         }
     }
 
-    // A reading under the curve of this number.
-    pub(crate) fn laid<B: PowfBackend>(
-        reading: f32,
-        number: u32,
-        curve: Curve,
-        backend: &B,
-    ) -> Patch
-        ensures { result ≡ Spec.laid (power (B.PowfBackend.meaning backend.now)) number curve reading }
+    // A reading under a curve.
+    pub(crate) fn laid<B: PowfBackend>(reading: f32, under: Numbered, backend: &B) -> Patch
+        ensures { result ≡ Spec.laid (power (B.PowfBackend.meaning backend.now)) under.number under.curve reading }
     {
         Patch {
             filled: true,
             reading,
-            curve: number,
-            shown: curve.shown(reading, backend),
+            curve: under.number,
+            shown: under.curve.shown(reading, backend),
         }
     }
 
@@ -62,14 +59,10 @@ impl Patch {
     pub(crate) fn view(&self) -> Option<View>
         ensures { result ≡ Spec.viewed self.now }
     {
-        if self.filled {
-            Some(View {
-                reading: self.reading,
-                curve: self.curve,
-                shown: self.shown,
-            })
-        } else {
-            None
-        }
+        self.filled.then_some(View {
+            reading: self.reading,
+            curve: self.curve,
+            shown: self.shown,
+        })
     }
 }

@@ -8,7 +8,7 @@ ghost use Rattle.strip.specs.Strip as Calls;
 ghost use Rattle.strip.specs.declared.call.Call.TheVariants.{Spread, SetCurve, DropCurve, LayPatch, ChangeReading, MovePatch, LiftPatch, ReadPatch};
 
 use crate::cells::{clear, rework, users};
-use crate::curve::{Curve, Curves};
+use crate::curve::{Curve, Curves, Numbered};
 use crate::patch::{Patch, View};
 use crate::refusal::Refusal;
 use power::backend::PowfBackend;
@@ -16,7 +16,7 @@ use power::backend::PowfBackend;
 // The most cells that a strip has.
 pub const MAX_CELLS: usize = 4096;
 
-// What a strip holds in either state.
+// What a strip holds in either state. The count stands alone, as the cells are lent to each call and not kept.
 #[derive(Drop)]
 pub struct Strip<B> {
     backend: B,
@@ -36,6 +36,7 @@ pub struct FinishedStrip<B> {
     strip: Strip<B>,
 }
 
+// With no value to hand on, `then_some(()).ok_or(..)` would say no more than `if`.
 fn check_curve(curve: u32) -> Result<(), Refusal>
     ensures { result ≡ Table.asked (Table.curve_number curve) }
 {
@@ -47,6 +48,7 @@ fn check_curve(curve: u32) -> Result<(), Refusal>
 }
 
 impl<B: PowfBackend> Strip<B> {
+    // An `if` for the reason of `check_curve`: there is no value to hand on.
     fn check_cells(&self, cells: &[Patch]) -> Result<(), Refusal>
         ensures { result ≡ Table.asked (Table.cells (Calls.observed self.now cells.now)) }
     {
@@ -57,38 +59,32 @@ impl<B: PowfBackend> Strip<B> {
         }
     }
 
-    fn check_patch(&self, patch: usize) -> Result<(), Refusal>
-        ensures { result ≡ Table.asked (Table.patch_number (Calls.observed self.now []) patch) }
+    // The cell of a patch, in a list that has to be as long as the strip's own.
+    fn cell(&self, cells: &[Patch], patch: usize) -> Result<Patch, Refusal>
+        ensures { result ≡ Table.answered (Table.first (Table.cells (Calls.observed self.now cells.now) ∷ Table.patch_number (Calls.observed self.now cells.now) patch ∷ [])) (Cells.at cells.now patch) }
     {
-        if patch < self.count {
-            Ok(())
-        } else {
-            Err(Refusal::PatchNumber)
-        }
+        self.check_cells(cells)?;
+        cells.get(patch).copied().ok_or(Refusal::PatchNumber)
     }
 
     // A curve that has to be set.
-    fn curve_set(&self, curve: u32) -> Result<Curve, Refusal>
-        ensures { result ≡ Table.answered (Table.first (Table.curve_unset (Calls.observed self.now []) curve ∷ [])) (Curving.counted (Calls.curve_of self.now curve)) }
+    fn curve_set(&self, number: u32) -> Result<Numbered, Refusal>
+        ensures { result ≡ Table.answered (Table.first (Table.curve_number number ∷ Table.curve_unset (Calls.observed self.now []) number ∷ [])) (Curving.numbered number (Curving.counted (Calls.curve_of self.now number))) }
     {
-        match self.curves.get(curve) {
-            Some(set) => Ok(set),
-            None => Err(Refusal::CurveUnset),
-        }
+        check_curve(number)?;
+        let curve = self.curves.get(number).ok_or(Refusal::CurveUnset)?;
+        Ok(Numbered { number, curve })
     }
 
     fn read_patch(&self, cells: &[Patch], patch: usize) -> Result<View, Refusal>
         ensures { result ≡ Table.answered (Calls.refusal (ReadPatch patch) self.now cells.now) (Patches.view (Cells.at cells.now patch)) }
     {
-        self.check_cells(cells)?;
-        self.check_patch(patch)?;
-        match cells[patch].view() {
-            Some(view) => Ok(view),
-            None => Err(Refusal::PatchEmpty),
-        }
+        self.cell(cells, patch)?.view().ok_or(Refusal::PatchEmpty)
     }
 }
 
+// Each call says answer, strip and cells in clauses that name the call: a record of the three would say the
+// same in more lines.
 impl<B: PowfBackend> OpenStrip<B> {
     // A strip with no curve set and no cells.
     pub fn new(backend: B) -> OpenStrip<B>
@@ -133,9 +129,12 @@ impl<B: PowfBackend> OpenStrip<B> {
         if exponent.is_nan() {
             return Err(Refusal::Exponent);
         }
-        let set = Curve { exponent };
-        self.strip.curves.put(curve, Some(set));
-        Ok(rework(cells, curve, set, &self.strip.backend))
+        let set = Numbered {
+            number: curve,
+            curve: Curve { exponent },
+        };
+        self.strip.curves.put(curve, Some(set.curve));
+        Ok(rework(cells, set, &self.strip.backend))
     }
 
     // Unsets a curve that no filled patch is under; answers its exponent.
@@ -144,13 +143,12 @@ impl<B: PowfBackend> OpenStrip<B> {
         ensures strip { self.new.strip ≡ Calls.strip_after (DropCurve curve) self.old.strip cells.now }
     {
         self.strip.check_cells(cells)?;
-        check_curve(curve)?;
         let set = self.strip.curve_set(curve)?;
         if users(cells, curve) > 0 {
             return Err(Refusal::CurveInUse);
         }
         self.strip.curves.put(curve, None);
-        Ok(set.exponent)
+        Ok(set.curve.exponent)
     }
 
     // Fills an empty cell with a reading under a curve; answers what it shows.
@@ -164,14 +162,12 @@ impl<B: PowfBackend> OpenStrip<B> {
         ensures answer { result ≡ Table.answered (Calls.refusal (LayPatch patch reading curve) self.now.strip cells.old) (Calls.patch_laid B.PowfBackend.meaning self.now.strip curve reading).shown }
         ensures cells { cells.new ≡ Calls.cells_after B.PowfBackend.meaning (LayPatch patch reading curve) self.now.strip cells.old }
     {
-        self.strip.check_cells(cells)?;
-        self.strip.check_patch(patch)?;
-        check_curve(curve)?;
+        let cell = self.strip.cell(cells, patch)?;
         let set = self.strip.curve_set(curve)?;
-        if cells[patch].filled {
+        if cell.filled {
             return Err(Refusal::PatchFilled);
         }
-        let laid = Patch::laid(reading, curve, set, &self.strip.backend);
+        let laid = Patch::laid(reading, set, &self.strip.backend);
         cells[patch] = laid;
         Ok(laid.shown)
     }
@@ -187,8 +183,8 @@ impl<B: PowfBackend> OpenStrip<B> {
         ensures cells { cells.new ≡ Calls.cells_after B.PowfBackend.meaning (ChangeReading patch reading) self.now.strip cells.old }
     {
         let View { curve, .. } = self.strip.read_patch(cells, patch)?;
-        let set = self.strip.curves.counted(curve);
-        let changed = Patch::laid(reading, curve, set, &self.strip.backend);
+        let under = self.strip.curves.counted(curve);
+        let changed = Patch::laid(reading, under, &self.strip.backend);
         cells[patch] = changed;
         Ok(changed.shown)
     }
@@ -198,12 +194,10 @@ impl<B: PowfBackend> OpenStrip<B> {
         ensures answer { result ≡ Table.answered (Calls.refusal (MovePatch patch curve) self.now.strip cells.old) (Calls.patch_laid B.PowfBackend.meaning self.now.strip curve (Cells.at cells.old patch).reading).shown }
         ensures cells { cells.new ≡ Calls.cells_after B.PowfBackend.meaning (MovePatch patch curve) self.now.strip cells.old }
     {
-        self.strip.check_cells(cells)?;
-        self.strip.check_patch(patch)?;
-        check_curve(curve)?;
+        let cell = self.strip.cell(cells, patch)?;
         let set = self.strip.curve_set(curve)?;
-        let View { reading, .. } = self.strip.read_patch(cells, patch)?;
-        let moved = Patch::laid(reading, curve, set, &self.strip.backend);
+        let View { reading, .. } = cell.view().ok_or(Refusal::PatchEmpty)?;
+        let moved = Patch::laid(reading, set, &self.strip.backend);
         cells[patch] = moved;
         Ok(moved.shown)
     }
@@ -218,7 +212,8 @@ impl<B: PowfBackend> OpenStrip<B> {
         Ok(reading)
     }
 
-    // Answers reading, curve and shown value of a filled cell.
+    // Answers reading, curve and shown value of a filled cell. It stands in both states: a state parameter
+    // would stand in every contract.
     pub fn read_patch(&self, cells: &[Patch], patch: usize) -> Result<View, Refusal>
         ensures { result ≡ Table.answered (Calls.refusal (ReadPatch patch) self.now.strip cells.now) (Patches.view (Cells.at cells.now patch)) }
     {
@@ -234,7 +229,8 @@ impl<B: PowfBackend> OpenStrip<B> {
 }
 
 impl<B: PowfBackend> FinishedStrip<B> {
-    // Answers reading, curve and shown value of a filled cell.
+    // Answers reading, curve and shown value of a filled cell. It stands in both states: a state parameter
+    // would stand in every contract.
     pub fn read_patch(&self, cells: &[Patch], patch: usize) -> Result<View, Refusal>
         ensures { result ≡ Table.answered (Calls.refusal (ReadPatch patch) self.now.strip cells.now) (Patches.view (Cells.at cells.now patch)) }
     {

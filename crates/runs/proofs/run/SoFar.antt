@@ -1,8 +1,8 @@
 -- The first steps of a run, made one after another. Assumes nothing.
-use Rattle.std.proofs.Common.{◌≡◌, ℕ, ◌+◌, ◌<◌, ◌≤◌, true, List, [], ◌∷◌, ◌++◌, map, length, get_or, take, drop, set, sym, ap, ◌∙◌, subst, arith}
+use Rattle.std.proofs.Common.{◌≡◌, ℕ, ◌+◌, ◌<◌, ◌≤◌, true, List, [], ◌∷◌, ◌++◌, map, length, get_or, drop, sym, ap, ◌∙◌, subst}
 use lib.ListN.{length-map}
 use Rattle.power.specs.Backend.{Arithmetic}
-use Rattle.std.proofs.lemmas.List.{append_assoc, append-nil, at_drop_more, at_drop_all, drop_more, drop_all, length-set, take_all, take_more_set}
+use Rattle.std.proofs.lemmas.List.{append_assoc, append-nil, at_drop_more, at_drop_all, drop_more, drop_all}
 use Rattle.strip.specs.Strip.{opened}
 use Rattle.strip.specs.declared.patch.Patch.{Patch}
 use Rattle.strip.specs.declared.strip.OpenStrip.{OpenStrip}
@@ -21,26 +21,23 @@ starts items vs b s e = λ i. world (Open (record { strip = e i })) (map items v
 module _ {B : Type 0} (meaning : B → Arithmetic) (first : World B) (steps : List Step) where
   -- i steps led from the first world to w: the rest lead on from there to the end of the run, its answers and its floats
   pub record SoFar (w : World B) (i : ℕ) (got : List Answer) : Type 0 where
-    pub places : length got ≡ length steps
     pub leads : run meaning w (drop i steps) ≡ run meaning first steps
-    pub answered : take i got ++ answers meaning w (drop i steps) ≡ answers meaning first steps
+    pub answered : got ++ answers meaning w (drop i steps) ≡ answers meaning first steps
     pub singles : SinglesRun meaning w (drop i steps) → SinglesRun meaning first steps
 
-  -- the next step is made, and its answer stands in its place
+  -- the next step is made, and its answer follows those before it
   pub one_more : (w w' : World B) (i : ℕ) (got : List Answer) (a : Answer) (none : Step) → i < length steps → SoFar w i got
       → w' ≡ stepped meaning w (get_or steps i none) → a ≡ answer_of meaning w (get_or steps i none)
       → (allows w.strip (get_or steps i none).call ≡ true → Singles (get_or steps i none).call)
-      → SoFar w' (i + 1) (set got i a)
+      → SoFar w' (i + 1) (got ++ a ∷ [])
   one_more w w' i got a none lt so_far w-is a-is single =
       let rest = drop (i + 1) steps in
       let next = drop_more steps i none lt in
       record {
-        places = length-set got i a ∙ so_far.places;
         leads = ap (λ v. run meaning v rest) w-is ∙ sym (at_drop_more (run meaning w) steps i none lt) ∙ so_far.leads;
         answered =
-            ap (λ made. made ++ answers meaning w' rest) (take_more_set got i a (omega arith))
-            ∙ append_assoc (take i got) (a ∷ []) (answers meaning w' rest)
-            ∙ ap (λ more. take i got ++ more) (cc)
+            append_assoc got (a ∷ []) (answers meaning w' rest)
+            ∙ ap (λ more. got ++ more) (cc)
             ∙ so_far.answered;
         singles = λ more. so_far.singles (subst (SinglesRun meaning w) (sym next) (single, subst (λ v. SinglesRun meaning v rest) w-is more));
       }
@@ -51,8 +48,7 @@ module _ {B : Type 0} (meaning : B → Arithmetic) (first : World B) (steps : Li
     all-ends = sym (at_drop_all (run meaning w) steps i le) ∙ so_far.leads
 
     pub all-answers : got ≡ answers meaning first steps
-    all-answers =
-        sym (take_all i got (omega arith)) ∙ sym (append-nil (take i got)) ∙ ap (λ more. take i got ++ more) (sym (at_drop_all (answers meaning w) steps i le)) ∙ so_far.answered
+    all-answers = sym (append-nil got) ∙ ap (λ more. got ++ more) (sym (at_drop_all (answers meaning w) steps i le)) ∙ so_far.answered
 
     pub all-singles : SinglesRun meaning first steps
     all-singles = so_far.singles (subst (SinglesRun meaning w) (sym (drop_all i steps le)) tt)

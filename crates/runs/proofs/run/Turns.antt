@@ -1,5 +1,5 @@
 -- One step of a run: the list that it is handed, and what it leaves. Assumes nothing.
-use Rattle.std.proofs.Common.{◌≡◌, ℕ, ◌<◌, ◌≤◌, Bool, true, false, cond, not, ◌&&◌, List, [], map, length, get_or, set, is_some, Some, None, Option, sym, refl, ap, ◌∙◌, arith}
+use Rattle.std.proofs.Common.{◌≡◌, ℕ, ◌<◌, ◌≤◌, Bool, true, false, cond, not, ◌&&◌, List, [], map, length, get_or, set, is_some, Some, None, Option, sym, refl, ◌∙◌, arith}
 use lib.ListN.{length-map}
 use Rattle.power.specs.Backend.{Arithmetic}
 use Rattle.std.proofs.lemmas.List.{get_or-map, get_or_past, map-set, set_past}
@@ -10,21 +10,12 @@ use Rattle.strip.specs.declared.call.Call.TheVariants.{Spread, SetCurve, DropCur
 use Rattle.strip.specs.declared.patch.Patch.{Patch}
 use Rattle.strip.specs.declared.refusal.Refusal.{Refusal}
 use Rattle.runs.specs.Answer.{reply, is_count}
-use Rattle.runs.specs.Run.{World, world, number, is_spread, stepped, answer_of}
+use Rattle.runs.specs.Run.{world, number, is_spread, stepped}
 use Rattle.runs.specs.State.{inside, allows, strip_after, cells_after, answer}
 use Rattle.runs.specs.declared.answer.Answer.TheVariants.{NotAllowed, Count}
-use Rattle.runs.specs.declared.run.Handed.TheVariants.{Own, Numbered}
 use Rattle.runs.specs.declared.run.Step.{Step}
 use Rattle.runs.specs.declared.state.AnyStrip.{AnyStrip}
 use Rattle.runs.specs.declared.state.Called.{Called}
-
--- the number of the list that a step hands in
-module _ {B : Type 0} (w : World B) (s : Step) where
-  pub own-number : s.list ≡ Own → w.own ≡ number w s
-  own-number e = sym (ap (λ l. elim l [ Own ↦ w.own | Numbered n ↦ n ]) e)
-
-  pub given-number : (n : ℕ) → s.list ≡ Numbered n → n ≡ number w s
-  given-number n e = sym (ap (λ l. elim l [ Own ↦ w.own | Numbered n ↦ n ]) e)
 
 -- what is answered is a count, if the call is allowed and not refused
 counts : (allowed : Bool) (o : Option Refusal) (n : ℕ) → (is_count (cond allowed (reply o (Count n)) NotAllowed) && true) ≡ (allowed && not (is_some o))
@@ -78,6 +69,3 @@ module _ {B : Type 0} (meaning : B → Arithmetic) (any : AnyStrip B) where
     pub step_is : (own' : ℕ) → own' ≡ cond (is_count after.answer && is_spread s.call) n own
         → world after.strip lists' own' ≡ stepped meaning (world any lists own) s
     step_is own' own_is = let spreads = counted-spread (get_or lists n []) s.call in cc
-
-    pub step-answer : after.answer ≡ answer_of meaning (world any lists own) s
-    step-answer = cc

@@ -7,6 +7,6 @@ use Rattle.strip.proofs.cells.rework.Given as goal
 
 abbrev pub invariant-loop-cell : goal.invariant-loop-cell
 invariant-loop-cell g l =
-    UpTo (reworked (power (g.B.PowfBackend.meaning l.backend)) l.number l.curve) l.initial.cells l.cells l.cell-index
-    × (l.count ≡ users l.number (take l.cell-index l.initial.cells))
+    UpTo (reworked (power (g.B.PowfBackend.meaning l.backend)) l.fn.set.number l.fn.set.curve) l.initial.cells l.cells l.cell-index
+    × (l.count ≡ users l.fn.set.number (take l.cell-index l.initial.cells))
     × (l.count ≤ l.cell-index)

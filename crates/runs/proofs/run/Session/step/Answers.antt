@@ -4,37 +4,34 @@ use Rattle.std.proofs.lemmas.Bool.{and_from, and_left, and_right, cond-true, con
 use Rattle.std.specs.Vec.{with_items}
 use Rattle.runs.specs.Answer.{is_count}
 use Rattle.runs.specs.Run.{number, world, is_spread}
-use Rattle.runs.proofs.run.Turns.{MadeOn, own-number, given-number, within-lists, past-lists, step_is, step-answer}
-use Rattle.runs.proofs.run.step_once.Goals as goal
-use Rattle.runs.proofs.run.step_once.Goals.{in-Own, in-Numbered, then-number-lists, else-number-lists}
-use Rattle.runs.proofs.run.step_once.Goals.{then-is_count+then-is_spread, else-is_count, else-is_count-via-then-is_count+else-is_spread, else-is_count-via-else-is_count}
+use Rattle.runs.proofs.run.Turns.{MadeOn, within-lists, past-lists, step_is}
+use Rattle.runs.proofs.run.Session.step.Goals as goal
+use Rattle.runs.proofs.run.Session.step.Goals.{then-number-lists, else-number-lists}
+use Rattle.runs.proofs.run.Session.step.Goals.{then-is_count+then-is_spread, else-is_count, else-is_count-via-then-is_count+else-is_spread, else-is_count-via-else-is_count}
 
-pub returns : goal.returns
-returns g c =
+pub returns-clause-world : goal.returns-clause-world
+returns-clause-world g c =
     let meaning = g.B.PowfBackend.meaning in
-    let any = c.args.strip in
-    let own = c.args.own in
+    let any = c.args.self.strip in
+    let own = c.args.self.own in
     let vs = c.args.lists.now in
     let lists = map vec_items vs in
     let s = c.args.step in
-    let n = c.match-step.number in
+    let n = c.number-number.result in
     let after = c.if-number-lists.strip in
     let vs' = c.if-number-lists.lists in
-    let n-is : n ≡ number (world any lists own) s = elim c.match-step.branch [
-      | in-Own w ↦ w.number-is ∙ own-number (world any lists own) s w.in-Own.is
-      | in-Numbered w ↦ w.number-is ∙ given-number (world any lists own) s w.in-Numbered.n w.in-Numbered.is
-    ] in
+    let n-is : n ≡ number (world any lists own) s = c.number-number.ensures in
     let made : MadeOn meaning any n s.call lists (map vec_items vs') after = elim c.if-number-lists.branch [
       | then-number-lists w ↦
           let v = w.index-lists-number.result in
-          let called = w.call_any in
+          let called = w.call in
           let handed = w.deref_mut in
           let cells' = called.new.cells in
           within-lists meaning any vec_items n s.call vs vs' after called.result w.strip-is v (with_items (get_or vs n v) cells') handed.result.now cells'
           w.if-number-lists.true handed.ensures.value w.lists-is (with_items_is (get_or vs n v) cells' (called.auto.cells ∙ handed.ensures.len))
           called.ensures.strip called.ensures.answer called.ensures.cells
       | else-number-lists w ↦
-          let called = w.call_any-else-number-lists in
+          let called = w.call-else-number-lists in
           past-lists meaning any vec_items n s.call vs vs' after called.result w.strip-is
           w.if-number-lists.false w.lists-is called.ensures.strip called.ensures.answer
     ] in
@@ -50,11 +47,4 @@ returns g c =
             | else-is_count-via-else-is_count v ↦ and_left counted spread (sym c.is_count.ensures ∙ v.if-is_count.false)
           ]))
     ] in
-    record {
-      world = step_is meaning any lists (map vec_items vs') own n s after n-is made c.if-is_count.own own_is;
-      answer = step-answer meaning any lists (map vec_items vs') own n s after n-is made;
-      singles = elim c.if-number-lists.branch [
-        | then-number-lists w ↦ w.call_any.ensures.singles
-        | else-number-lists w ↦ w.call_any-else-number-lists.ensures.singles
-      ];
-    }
+    step_is meaning any lists (map vec_items vs') own n s after n-is made c.if-is_count.own own_is
