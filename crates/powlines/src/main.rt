@@ -1,19 +1,10 @@
 // The powers of pairs of bit patterns, a pair to a line, from standard input to standard output.
 #![tactic(auto)]
 
-use powtext::{MAX_INPUT, answers};
+use powtext::answers;
 use std::io;
-use std::io::{Read, Write};
-
-fn run(rt: &HostRuntime) -> io::Result<()> {
-    // A byte past the bound tells that there is more, and no other is read.
-    let most = MAX_INPUT as u64 + 1;
-    let mut input = Vec::new(rt.alloc());
-    rt.stdin().take(most).read_to_end(&mut input)?;
-    let output = answers(rt.alloc(), input.as_slice())?;
-    rt.stdout().write_all(output.as_slice())
-}
+use text::filter::filter;
 
 fn main(rt: HostRuntime) -> io::Result<()> {
-    run(&rt)
+    filter(rt.alloc(), rt.stdin(), &mut rt.stdout(), answers)
 }

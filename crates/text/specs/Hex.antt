@@ -1,14 +1,10 @@
 -- Bit patterns in hexadecimal digits. Assumes nothing.
-use Rattle.std.specs.Prelude.{ℕ, zero, suc, ◌+◌, ◌-◌, ◌/◌, ◌%◌, ◌^◌, cond, ◌&&◌, List, [], ◌∷◌, length, Some, None, Option, ◌==◌, nat_le, nat_lt}
-use Rattle.text.specs.Numeral.{numeral}
-
--- `0` to `9` and `a` to `f`: no other byte is a digit
-abbrev pub digit : ℕ → Option ℕ
-digit b = cond (nat_le 48 b && nat_le b 57) (Some (b - 48)) (cond (nat_le 97 b && nat_le b 102) (Some (b - 97 + 10)) None)
+use Rattle.std.specs.Prelude.{ℕ, zero, suc, ◌+◌, ◌-◌, ◌/◌, ◌%◌, ◌^◌, cond, List, [], ◌∷◌, length, None, Option, ◌==◌, nat_lt}
+use Rattle.text.specs.Digits.{numeral}
 
 -- the number that exactly eight digits write
 abbrev pub pattern : List ℕ → Option ℕ
-pattern bs = cond (length bs == 8) (numeral 16 digit 0 bs) None
+pattern bs = cond (length bs == 8) (numeral 16 0 bs) None
 
 -- the lower-case character of a digit
 abbrev pub hexadecimal : ℕ → ℕ

@@ -1,4 +1,7 @@
 pub mod Decimal
+pub mod Digits
+pub mod Filter
+pub mod Float
 pub mod Hex
-pub mod Numeral
+pub mod Input
 pub mod Pieces

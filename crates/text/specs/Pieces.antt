@@ -1,5 +1,6 @@
 -- How text falls into pieces: an input into lines, a line into words. Assumes nothing.
 use Rattle.std.specs.Prelude.{ℕ, cond, List, [], ◌∷◌, ◌==◌}
+use Rattle.text.specs.declared.pieces.Pieces.{Pieces}
 
 -- b in front of the first piece, or alone where there is none
 abbrev pub begun : ℕ → List (List ℕ) → List (List ℕ)
@@ -22,3 +23,7 @@ blank = 32
 
 abbrev pub words : List ℕ → List (List ℕ)
 words line = pieces blank line
+
+-- the pieces that an iterator is still to give
+abbrev pub pieces_left : Pieces → List (List ℕ)
+pieces_left it = pieces it.separator it.rest.now

@@ -2,15 +2,7 @@
 ghost use Rattle.std.specs.Prelude.{◌≡◌};
 ghost use Rattle.text.specs.Decimal as Spec;
 
-// The value of a digit.
-fn decimal_digit(b: u8) -> Option<u32>
-    ensures { result ≡ Spec.digit b }
-{
-    match b {
-        b'0'..=b'9' => Some(u32::from(b - b'0')),
-        _ => None,
-    }
-}
+use crate::digits::read;
 
 // The number that one to nine digits write.
 pub fn read_number(digits: &[u8]) -> Option<u32>
@@ -19,9 +11,5 @@ pub fn read_number(digits: &[u8]) -> Option<u32>
     if digits.is_empty() || digits.len() > 9 {
         return None;
     }
-    let mut n = 0;
-    for b in digits {
-        n = n * 10 + decimal_digit(*b)?;
-    }
-    Some(n)
+    read(10, digits)
 }

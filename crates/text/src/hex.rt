@@ -1,17 +1,20 @@
 // Bit patterns in lower-case hexadecimal digits.
-ghost use Rattle.std.specs.Prelude.{◌≡◌, ◌<◌, ◌++◌, OnOk};
+ghost use Rattle.std.specs.Prelude.{◌≡◌, Some};
 ghost use Rattle.text.specs.Hex as Spec;
 
-use std::alloc::AllocError;
+use crate::digits::read;
+use std::fmt;
 
-// The value of a digit.
-fn hex_digit(b: u8) -> Option<u32>
-    ensures { result ≡ Spec.digit b }
-{
-    match b {
-        b'0'..=b'9' => Some(u32::from(b - b'0')),
-        b'a'..=b'f' => Some(u32::from(b - b'a') + 10),
-        _ => None,
+// A bit pattern, written as its eight digits.
+#[derive(Clone, Copy)]
+pub struct Pattern(pub u32);
+
+impl fmt::Display for Pattern {
+    ghost output = { λ pattern. Some (Spec.hex8 pattern.0) };
+
+    fn fmt<W: fmt::Write>(&self, f: &mut fmt::Formatter<W>) -> fmt::Result {
+        let bits = self.0;
+        write!(f, "{bits:08x}")
     }
 }
 
@@ -22,32 +25,5 @@ pub fn read_pattern(digits: &[u8]) -> Option<u32>
     if digits.len() != 8 {
         return None;
     }
-    let mut bits = 0;
-    for b in digits {
-        bits = bits * 16 + hex_digit(*b)?;
-    }
-    Some(bits)
-}
-
-// The character of a digit.
-fn hex_char(digit: u8) -> u8
-    requires { digit < 16 }
-    ensures { result ≡ Spec.hexadecimal digit }
-{
-    if digit < 10 {
-        b'0' + digit
-    } else {
-        b'a' + (digit - 10)
-    }
-}
-
-// Adds the eight digits of `bits`.
-pub fn push_hex(out: &mut Vec<u8>, bits: u32) -> Result<(), AllocError>
-    ensures { OnOk result (out.new.items ≡ out.old.items ++ Spec.hex8 bits) }
-{
-    for place in (0..8u32).rev() {
-        let digit = (bits >> (4 * place)) & 15;
-        out.push(hex_char(digit as u8))?;
-    }
-    Ok(())
+    read(16, digits)
 }

@@ -2,5 +2,9 @@
 #![tactic(auto)]
 
 pub mod decimal;
+mod digits;
+pub mod filter;
+pub mod float;
 pub mod hex;
+pub mod input;
 pub mod pieces;

@@ -1,42 +1,50 @@
 -- How text falls into pieces at its separators. Assumes nothing.
-use Rattle.std.proofs.Common.{◌≡◌, ℕ, zero, suc, ◌<◌, Bool, true, false, cond, eqb, List, [], ◌∷◌, length, get_or, take, drop, refl, ap, ◌∙◌, arith, eq-eqb, ne_eqb}
-use Rattle.std.proofs.lemmas.Bool.Decides.{nat_tests}
+use Rattle.std.proofs.Common.{◌≡◌, ℕ, ◌+◌, ◌<◌, ◌≤◌, Bool, true, false, cond, eqb, List, [], ◌∷◌, length, take, drop, refl, ap, ◌∙◌, one-add, arith}
+use Rattle.std.proofs.Math.Nat.{suc-add}
+use Rattle.std.proofs.lemmas.Bool.{ltb-false}
+use Rattle.std.proofs.lemmas.List.{take_all, drop_all}
+use Rattle.std.specs.List.{before_first, after_first, position_or_len}
+use Rattle.std.specs.Prelude.{position, nat_lt, MatchOption, Some, None}
 use Rattle.text.specs.Pieces.{begun, pieces}
 
--- a byte in front ends a first piece or is in it
-some-piece : (ends : Bool) (b : ℕ) (more : List (List ℕ)) → 0 < length (cond ends ([] ∷ more) (begun b more))
-some-piece true b more = omega arith
-some-piece false b [] = omega arith
-some-piece false b (piece ∷ more) = omega arith
+-- a byte in front adds a piece at most
+one-more : (ends : Bool) (b : ℕ) (more : List (List ℕ)) (n : ℕ) → length more ≤ n → length (cond ends ([] ∷ more) (begun b more)) ≤ n + 1
+one-more true b more n h = omega arith
+one-more false b [] n h = omega arith
+one-more false b (piece ∷ more) n h = omega arith
 
 module _ (c : ℕ) where
-  -- none of the first n bytes is the separator
-  abbrev pub Unbroken : List ℕ → ℕ → Type 0
-  Unbroken xs n = (k : ℕ) → k < n → get_or xs k 0 ≡ c → ⊥
+  abbrev ends : ℕ → Bool
+  ends b = eqb b c
 
-  -- a list whose first byte is no separator has that byte in front of its first piece
-  unbegun : (x : ℕ) (xs : List ℕ) → (x ≡ c → ⊥) → pieces c (x ∷ xs) ≡ begun x (pieces c xs)
-  unfolding pieces
-  unbegun x xs h = rw (ne_eqb x c h)
+  longer : (x n : ℕ) (xs : List ℕ) → begun x (take n xs ∷ pieces c (drop (n + 1) xs)) ≡ take (1 + n) (x ∷ xs) ∷ pieces c (drop (1 + n + 1) (x ∷ xs))
+  longer x n xs = rw (one-add n, suc-add n 1) refl
 
-  -- the first separator ends the first piece
-  pub pieces-cut : (xs : List ℕ) (n : ℕ) → n < length xs → Unbroken xs n → get_or xs n 0 ≡ c → pieces c xs ≡ take n xs ∷ pieces c (drop (suc n) xs)
+  -- what stands before the first separator is the first piece, and what follows it has the others
+  pieces_first : (xs : List ℕ) → 0 < length xs → pieces c xs ≡ before_first ends xs ∷ pieces c (after_first ends xs)
   unfolding pieces
-  pieces-cut [] n lt un is = absurd (omega arith)
-  pieces-cut (x ∷ xs) zero lt un is = rw (eq-eqb x c is)
-  pieces-cut (x ∷ xs) (suc n) lt un is =
-      unbegun x xs (un 0 (omega arith)) ∙ ap (begun x) (pieces-cut xs n (omega arith) (λ k h. un (suc k) (omega arith)) is)
+  pieces_first [] some = absurd (omega arith)
+  pieces_first (x ∷ []) some = by (ends x) refl
+    where
+      by : (t : Bool) → ends x ≡ t → pieces c (x ∷ []) ≡ before_first ends (x ∷ []) ∷ pieces c (after_first ends (x ∷ []))
+      by true e = rw e
+      by false e = rw e
+  pieces_first (x ∷ y ∷ ys) some = by (ends x) refl (pieces_first (y ∷ ys) (omega arith))
+    where
+      by : (t : Bool) → ends x ≡ t → pieces c (y ∷ ys) ≡ before_first ends (y ∷ ys) ∷ pieces c (after_first ends (y ∷ ys)) → pieces c (x ∷ y ∷ ys) ≡ before_first ends (x ∷ y ∷ ys) ∷ pieces c (after_first ends (x ∷ y ∷ ys))
+      by true e more = rw e
+      by false e more = rw e (ap (begun x) more ∙ longer x (position_or_len ends (y ∷ ys)) (y ∷ ys))
 
-  -- bytes with no separator are one piece
-  pub pieces-last : (xs : List ℕ) → 0 < length xs → Unbroken xs (length xs) → pieces c xs ≡ xs ∷ []
-  unfolding pieces
-  pieces-last [] lt un = absurd (omega arith)
-  pieces-last (x ∷ []) lt un = unbegun x [] (un 0 (omega arith))
-  pieces-last (x ∷ y ∷ ys) lt un =
-      unbegun x (y ∷ ys) (un 0 (omega arith)) ∙ ap (begun x) (pieces-last (y ∷ ys) (omega arith) (λ k h. un (suc k) (omega arith)))
+  -- the same by the place of the first separator; with none there is one piece
+  pub pieces_cut : (xs : List ℕ) → 0 < length xs → MatchOption (position ends xs) (pieces c xs ≡ xs ∷ pieces c []) (λ i. pieces c xs ≡ take i xs ∷ pieces c (drop (i + 1) xs))
+  pieces_cut xs some = by (nat_lt (position_or_len ends xs) (length xs)) refl
+    where
+      by : (t : Bool) → nat_lt (position_or_len ends xs) (length xs) ≡ t → MatchOption (cond t (Some (position_or_len ends xs)) None) (pieces c xs ≡ xs ∷ pieces c []) (λ i. pieces c xs ≡ take i xs ∷ pieces c (drop (i + 1) xs))
+      by true e = pieces_first xs some
+      by false e = let past = ltb-false _ _ e in rw (take_all _ xs past, drop_all (position_or_len ends xs + 1) xs (omega arith)) at (pieces_first xs some)
 
-  -- there is no piece exactly where there is no byte
-  pub pieces_none : (xs : List ℕ) → eqb (length (pieces c xs)) 0 ≡ eqb (length xs) 0
+  -- each piece takes a byte or more
+  pub pieces_few : (xs : List ℕ) → length (pieces c xs) ≤ length xs
   unfolding pieces
-  pieces_none [] = refl
-  pieces_none (x ∷ xs) = let some = some-piece (eqb x c) x (pieces c xs) in grind (arith, nat_tests)
+  pieces_few [] = omega arith
+  pieces_few (x ∷ xs) = let more = one-more (eqb x c) x (pieces c xs) (length xs) (pieces_few xs) in omega arith

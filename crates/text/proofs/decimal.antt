@@ -1,2 +1,0 @@
--- What the proofs of src/decimal.rt use.
-pub mod Digits

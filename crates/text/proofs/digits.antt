@@ -1,0 +1,2 @@
+-- What the proofs of src/digits.rt use.
+pub mod Numerals
