@@ -24,7 +24,7 @@ use Rattle.strip.specs.declared.call.Call.TheVariants.{Spread, SetCurve, DropCur
 use Rattle.strip.specs.declared.patch.Patch.{Patch}
 use Rattle.strip.specs.declared.refusal.Refusal.TheVariants.{Cells}
 use Rattle.strip.specs.declared.strip.Strip.{Strip}
-use Rattle.striptext.specs.Session.{Fits, allowed, cells_handed, open_after, replies}
+use Rattle.striptext.specs.Session.{Fits, FitsAs, allowed, cells_handed, open_after, replies}
 use Rattle.striptext.proofs.Lengths.{refused-others}
 use Rattle.striptext.proofs.Sized.{Sized, own-from-count, run-proper, start-sized, step-sized, still-fits}
 
@@ -77,7 +77,7 @@ module _ (m : Model) (n : ℕ) (other : eqb n m.count ≡ false) where
 -- ---- a step that is allowed
 
 module _ {B : Type 0} (w : World B) (sized : Sized w) (m : Model) (same : (inside w.strip).count ≡ m.count) where
-  length-by : (list : Handed) (call : Call) → Fits w.lists (record { list = list; call = call })
+  length-by : (list : Handed) (call : Call) → FitsAs w.lists list
       → length (handed w (record { list = list; call = call })) ≡ cells_handed m (record { list = list; call = call })
   length-by Own call fits = sym sized.counted ∙ same
   length-by (Numbered n) call fits = fits
@@ -140,13 +140,11 @@ module _ {B : Type 0} (b : B) where
       ap is_open (cond-true (allows w.strip s.call) _ w.strip allow) ∙ open_told w.strip s.call _ in
       let answer = answer-told w sized m same s fits allow meaning b a law in
       let model = model-told w sized m same s fits allow in
-      (λ i. answer i ∷ (later ∙ λ j. replies (state j) (model j) steps) i)
-      ∙ sym (cond-true (allowed (is_open w.strip) s.call) _ _ (allowed-told w.strip s.call ∙ allow)))
+      rw (allowed-told w.strip s.call ∙ allow) cc)
       (λ deny.
       let state : is_open (stepped meaning w s).strip ≡ is_open w.strip = ap is_open (cond-false (allows w.strip s.call) _ w.strip deny) in
       let model : followed w m s ≡ m = cond-false (allows w.strip s.call) _ m deny in
-      (λ i. law.not_allowed deny i ∷ (later ∙ λ j. replies (state j) (model j) steps) i)
-      ∙ sym (cond-false (allowed (is_open w.strip) s.call) _ _ (allowed-told w.strip s.call ∙ deny)))
+      rw (allowed-told w.strip s.call ∙ deny) (cc (law.not_allowed deny)))
       (cases_Bool (allows w.strip s.call))
 
   run-told : (steps : List Step) (w : World B) (m : Model) (got : List Answer) → Sized w → AllByRecursion (Fits w.lists) steps

@@ -13,7 +13,7 @@ use Rattle.std.specs.List.{AllByRecursion}
 use Rattle.strip.specs.Strip.{observed, refusal}
 use Rattle.strip.specs.declared.call.Call.{Call}
 use Rattle.strip.specs.declared.patch.Patch.{Patch}
-use Rattle.striptext.specs.Session.{Fits}
+use Rattle.striptext.specs.Session.{Fits, FitsAs}
 use Rattle.striptext.proofs.Lengths.{count-after, length-after, length-written, refused-others}
 
 -- list n has n cells, or none
@@ -33,7 +33,7 @@ start-sized b lists =
 -- ---- the list that a step hands in
 
 module _ {B : Type 0} (w : World B) (sized : Sized w) where
-  own-from-length : (list : Handed) (call : Call) → Fits w.lists (record { list = list; call = call })
+  own-from-length : (list : Handed) (call : Call) → FitsAs w.lists list
       → length (handed w (record { list = list; call = call })) ≡ length (own_cells w) → is_own w (record { list = list; call = call }) ≡ true
   own-from-length Own call fits same = or_left _ _ (eq-eqb w.own w.own refl)
   own-from-length (Numbered n) call fits same =
@@ -42,8 +42,7 @@ module _ {B : Type 0} (w : World B) (sized : Sized w) where
       (λ none. or_right _ _ (and_from _ _ (eq-eqb (length (get_or w.lists n [])) 0 (omega arith)) (eq-eqb _ 0 none)))
       sized.numbered
 
-  handed-numbered : (list : Handed) (call : Call) → Fits w.lists (record { list = list; call = call })
-      → AsNumbered w.lists (number w (record { list = list; call = call }))
+  handed-numbered : (list : Handed) (call : Call) → FitsAs w.lists list → AsNumbered w.lists (number w (record { list = list; call = call }))
   handed-numbered Own call fits = sized.numbered
   handed-numbered (Numbered n) call fits = inl fits
 
@@ -65,9 +64,9 @@ module _ {B : Type 0} (w : World B) (sized : Sized w) where
 
 -- lists of which each is as long as before
 module _ (lists lists' : List (List Patch)) (same : (n : ℕ) → length (get_or lists' n []) ≡ length (get_or lists n [])) where
-  pub fits-as-long : (list : Handed) (call : Call) → Fits lists (record { list = list; call = call }) → Fits lists' (record { list = list; call = call })
-  fits-as-long Own call fits = tt
-  fits-as-long (Numbered n) call fits = same n ∙ fits
+  pub fits-as-long : (list : Handed) → FitsAs lists list → FitsAs lists' list
+  fits-as-long Own fits = tt
+  fits-as-long (Numbered n) fits = same n ∙ fits
 
   numbered-as-long : (n : ℕ) → AsNumbered lists n → AsNumbered lists' n
   numbered-as-long n = ⊎_elim (λ full. inl (same n ∙ full)) (λ none. inr (same n ∙ none))
@@ -81,7 +80,7 @@ module _ {B : Type 0} (meaning : B → Arithmetic) (w : World B) (s : Step) wher
   same-lengths n = length-written w.lists (number w s) n _ (length-after meaning w.strip (handed w s) s.call)
 
   pub still-fits : (t : Step) → Fits w.lists t → Fits (stepped meaning w s).lists t
-  still-fits t = fits-as-long w.lists (stepped meaning w s).lists same-lengths t.list t.call
+  still-fits t = fits-as-long w.lists (stepped meaning w s).lists same-lengths t.list
 
   abbrev spreads : Bool
   spreads = is_spread s.call && accepted w s

@@ -1,5 +1,5 @@
 -- What is written for an input of calls: the answers are those of the model and the power, and no cells are spoken of. Assumes nothing.
-use Rattle.std.specs.Prelude.{◌≡◌, ℕ, ◌+◌, Bool, true, false, cond, List, [], ◌∷◌, ◌++◌, map, length, Some, None, codes, Option, nat_lt, slice_index_or}
+use Rattle.std.specs.Prelude.{◌≡◌, ℕ, ◌+◌, Bool, true, false, cond, List, [], ◌∷◌, ◌++◌, map, length, Some, None, Option, slice_index_or, filter_map}
 use Rattle.power.specs.Backend.{portable}
 use Rattle.power.specs.Powf.{power}
 use Rattle.runs.specs.Model.{Model, opening, fed}
@@ -7,6 +7,7 @@ use Rattle.runs.specs.Model as Model
 use Rattle.runs.specs.State.{allowed_open, allowed_finished}
 use Rattle.runs.specs.declared.answer.Answer.{Answer}
 use Rattle.runs.specs.declared.answer.Answer.TheVariants.{NotAllowed}
+use Rattle.runs.specs.declared.run.Handed.{Handed}
 use Rattle.runs.specs.declared.run.Handed.TheVariants.{Own, Numbered}
 use Rattle.runs.specs.declared.run.Step.{Step}
 use Rattle.strip.specs.declared.call.Call.{Call}
@@ -14,11 +15,16 @@ use Rattle.strip.specs.declared.call.Call.TheVariants.{Spread, SetCurve, DropCur
 use Rattle.strip.specs.declared.patch.Patch.{Patch}
 use Rattle.striptext.specs.Step.{step}
 use Rattle.striptext.specs.Written as Written
+use Rattle.text.specs.Input.{answered_within}
 use Rattle.text.specs.Pieces.{lines, newline}
 
 -- the list of number n has n cells
+abbrev pub FitsAs : List (List Patch) → Handed → Type 0
+FitsAs lists Own = Unit {0}
+FitsAs lists (Numbered n) = length (slice_index_or lists n []) ≡ n
+
 abbrev pub Fits : List (List Patch) → Step → Type 0
-Fits lists s = elim s.list [ Own ↦ Unit {0} | Numbered n ↦ length (slice_index_or lists n []) ≡ n ]
+Fits lists s = FitsAs lists s.list
 
 -- ---- the answers
 
@@ -53,9 +59,7 @@ replies o m (s ∷ steps) =
 -- ---- the output
 
 abbrev pub calls : List (Option Step) → List Step
-calls [] = []
-calls (None ∷ read) = calls read
-calls (Some s ∷ read) = s ∷ calls read
+calls read = filter_map (λ line. line) read
 
 -- for the lines numbered from n: `bad` with the number, or the next answer
 unfoldable pub written : ℕ → List (Option Step) → List Answer → List ℕ
@@ -64,7 +68,9 @@ written n (None ∷ read) answers = Written.bad n ++ newline ∷ written (n + 1)
 written n (Some s ∷ read) [] = newline ∷ written (n + 1) read []
 written n (Some s ∷ read) (a ∷ answers) = Written.answer a ++ newline ∷ written (n + 1) read answers
 
+-- the calls of a text's lines are answered, and a line is written for each line
+abbrev pub line_by_line : List ℕ → List ℕ
+line_by_line text = let read : List (Option Step) = map step (lines text) in written 1 read (replies true opening (calls read))
+
 unfoldable pub output : List ℕ → List ℕ
-output input =
-    let read : List (Option Step) = map step (lines input) in
-    cond (nat_lt 65536 (length input)) (codes "too long" ++ newline ∷ []) (written 1 read (replies true opening (calls read)))
+output input = answered_within line_by_line input

@@ -1,6 +1,5 @@
 -- A line as a call and the list of cells that it is handed. Assumes nothing.
-use Rattle.std.specs.Prelude.{ℕ, cond, List, [], ◌∷◌, Some, None, codes, Option, from_bits, nat_le, Float}
-use Rattle.std.specs.Float.{binary32}
+use Rattle.std.specs.Prelude.{ℕ, cond, List, [], ◌∷◌, Some, None, codes, Option, nat_le, Float}
 use Rattle.runs.specs.declared.run.Handed.{Handed}
 use Rattle.runs.specs.declared.run.Handed.TheVariants.{Own, Numbered}
 use Rattle.runs.specs.declared.run.Step.{Step}
@@ -11,7 +10,7 @@ use Rattle.striptext.specs.Name.{name}
 use Rattle.striptext.specs.declared.name.Name.{Name}
 use Rattle.striptext.specs.declared.name.Name.TheVariants as Names
 use Rattle.text.specs.Decimal as Decimal
-use Rattle.text.specs.Hex.{pattern}
+use Rattle.text.specs.Float.{float_given}
 use Rattle.text.specs.Pieces.{words}
 
 abbrev pub Words : Type 0
@@ -28,19 +27,18 @@ abbrev pub before : {X : Type 0} → Option X → Words → Option (X × Words)
 before None ws = None
 before (Some x) ws = Some (x, ws)
 
+-- what the word in front gives
+abbrev pub first : {X : Type 0} → (List ℕ → Option X) → Words → Option (X × Words)
+first given [] = None
+first given (w ∷ ws) = before (given w) ws
+
 -- a number in decimal digits in front
 abbrev pub number_first : Words → Option (ℕ × Words)
-number_first [] = None
-number_first (w ∷ ws) = before (Decimal.number w) ws
+number_first ws = first Decimal.number ws
 
--- a bit pattern of eight hexadecimal digits
-abbrev pub float_of : Option ℕ → Option Float
-float_of None = None
-float_of (Some bits) = Some (from_bits binary32 bits)
-
+-- a bit pattern of eight hexadecimal digits in front
 abbrev pub float_first : Words → Option (Float × Words)
-float_first [] = None
-float_first (w ∷ ws) = before (float_of (pattern w)) ws
+float_first ws = first float_given ws
 
 -- ---- lists of cells
 

@@ -1,12 +1,11 @@
 -- What is written for an answer. Assumes nothing.
-use Rattle.std.specs.Prelude.{ℕ, List, ◌∷◌, ◌++◌, codes, to_bits, Float}
-use Rattle.std.specs.Float.{binary32}
+use Rattle.std.specs.Prelude.{ℕ, List, ◌∷◌, ◌++◌, codes, Float}
 use Rattle.runs.specs.declared.answer.Answer.{Answer}
 use Rattle.runs.specs.declared.answer.Answer.TheVariants.{NotAllowed, Refused, Count, Value, Patch, Done}
 use Rattle.std.specs.Fmt as Std
 use Rattle.strip.specs.Refusal.{number}
 use Rattle.strip.specs.declared.patch.View.{View}
-use Rattle.text.specs.Hex.{hex8}
+use Rattle.text.specs.Float as Float
 use Rattle.text.specs.Pieces.{blank}
 
 abbrev pub decimal : ℕ → List ℕ
@@ -14,7 +13,7 @@ decimal n = Std.decimal n
 
 -- the bit pattern; every NaN is 7fc00000
 abbrev pub float : Float → List ℕ
-float x = hex8 (to_bits binary32 x)
+float x = Float.float x
 
 -- reading, curve and shown value
 abbrev pub view : View → List ℕ

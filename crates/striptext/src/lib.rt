@@ -4,6 +4,8 @@
 mod name;
 mod session;
 mod step;
+mod word;
 mod written;
 
-pub use session::{MAX_INPUT, answers};
+pub use session::answers;
+pub use text::input::MAX_INPUT;

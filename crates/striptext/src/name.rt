@@ -1,8 +1,7 @@
 // The names of the calls.
-ghost use Rattle.std.specs.Prelude.{◌≡◌};
 ghost use Rattle.striptext.specs.Name as Spec;
 
-use text::pieces::same;
+use crate::word::Word;
 
 #[derive(Clone, Copy)]
 pub(crate) enum Name {
@@ -18,30 +17,22 @@ pub(crate) enum Name {
     Reopen,
 }
 
-pub(crate) fn read_name(word: &[u8]) -> Option<Name>
-    ensures { result ≡ Spec.name word.now }
-{
-    if same(word, b"spread") {
-        Some(Name::Spread)
-    } else if same(word, b"set-curve") {
-        Some(Name::SetCurve)
-    } else if same(word, b"drop-curve") {
-        Some(Name::DropCurve)
-    } else if same(word, b"lay-patch") {
-        Some(Name::LayPatch)
-    } else if same(word, b"change-reading") {
-        Some(Name::ChangeReading)
-    } else if same(word, b"move-patch") {
-        Some(Name::MovePatch)
-    } else if same(word, b"lift-patch") {
-        Some(Name::LiftPatch)
-    } else if same(word, b"read-patch") {
-        Some(Name::ReadPatch)
-    } else if same(word, b"finish") {
-        Some(Name::Finish)
-    } else if same(word, b"reopen") {
-        Some(Name::Reopen)
-    } else {
-        None
+impl Word for Name {
+    ghost given = { Spec.name };
+
+    fn of_word(word: &[u8]) -> Option<Name> {
+        match word {
+            b"spread" => Some(Name::Spread),
+            b"set-curve" => Some(Name::SetCurve),
+            b"drop-curve" => Some(Name::DropCurve),
+            b"lay-patch" => Some(Name::LayPatch),
+            b"change-reading" => Some(Name::ChangeReading),
+            b"move-patch" => Some(Name::MovePatch),
+            b"lift-patch" => Some(Name::LiftPatch),
+            b"read-patch" => Some(Name::ReadPatch),
+            b"finish" => Some(Name::Finish),
+            b"reopen" => Some(Name::Reopen),
+            _ => None,
+        }
     }
 }

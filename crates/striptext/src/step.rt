@@ -1,206 +1,104 @@
 // A line as a call and the list of cells that it is handed.
-ghost use Rattle.std.specs.Prelude.{◌≡◌, [], Some, None, MatchOption};
+ghost use Rattle.std.specs.Prelude.{◌≡◌};
 ghost use Rattle.striptext.specs.Step as Spec;
-ghost use Rattle.text.specs.Pieces.{words};
+ghost use Rattle.text.specs.Pieces.{pieces_left};
 
-use crate::name::{Name, read_name};
+use crate::name::Name;
+use crate::word::next;
 use runs::run::{Handed, Step};
-use std::num::f32_from_bits_with_nan;
 use strip::call::Call;
-use text::decimal::read_number;
-use text::hex::read_pattern;
-use text::pieces::{first_piece, same};
+use strip::strip::MAX_CELLS;
+use text::pieces::{Pieces, words};
 
 // The most cells of a list that is handed in: one more than a strip can have.
-const MOST_CELLS: usize = 4097;
-
-// The number in front of `rest`, and what follows it.
-fn number(rest: &[u8]) -> Option<(u32, &[u8])>
-    ensures { MatchOption result (Spec.number_first (words rest.now) ≡ None) (λ p. Spec.number_first (words rest.now) ≡ Some (p.0, words p.1.now)) }
-{
-    let (word, rest) = first_piece(b' ', rest)?;
-    Some((read_number(word)?, rest))
-}
-
-// The float in front of `rest`, and what follows it.
-fn float(rest: &[u8]) -> Option<(f32, &[u8])>
-    ensures { MatchOption result (Spec.float_first (words rest.now) ≡ None) (λ p. Spec.float_first (words rest.now) ≡ Some (p.0, words p.1.now)) }
-{
-    let (word, rest) = first_piece(b' ', rest)?;
-    Some((f32_from_bits_with_nan(read_pattern(word)?), rest))
-}
+const MOST_CELLS: usize = MAX_CELLS + 1;
 
 // The list of so many cells; one with more than `MOST_CELLS` has that many.
-fn list_of(cells: u32) -> Handed
+fn list_of(cells: usize) -> Handed
     ensures { result ≡ Spec.list_of cells }
 {
-    Handed::Numbered((cells as usize).min(MOST_CELLS))
+    Handed::Numbered(cells.min(MOST_CELLS))
+}
+
+// What was read, if no more words follow.
+fn alone<T: Copy>(read: T, words: &mut Pieces<'_>) -> Option<T>
+    ensures { result ≡ Spec.alone (pieces_left words.old) read }
+{
+    words.next().is_none().then_some(read)
 }
 
 // Which list the end of a line names: `with` and a number of cells, or nothing, for the strip's own.
-fn handed(rest: &[u8]) -> Option<Handed>
-    ensures { result ≡ Spec.handed (words rest.now) }
+fn handed(words: &mut Pieces<'_>) -> Option<Handed>
+    ensures { result ≡ Spec.handed (pieces_left words.old) }
 {
-    let Some((word, rest)) = first_piece(b' ', rest) else {
-        return Some(Handed::Own);
-    };
-    if !same(word, b"with") {
-        return None;
-    }
-    let (cells, rest) = number(rest)?;
-    if rest.is_empty() {
-        Some(list_of(cells))
-    } else {
-        None
+    match words.next() {
+        None => Some(Handed::Own),
+        Some(b"with") => alone(list_of(next(words)?), words),
+        Some(_) => None,
     }
 }
 
-fn on_list(rest: &[u8], call: Call) -> Option<Step>
-    ensures { result ≡ Spec.on_list (words rest.now) call }
+// A call on the list that the end of its line names.
+fn on_list(call: Call, words: &mut Pieces<'_>) -> Option<Step>
+    ensures { result ≡ Spec.on_list (pieces_left words.old) call }
 {
     Some(Step {
-        list: handed(rest)?,
+        list: handed(words)?,
         call,
     })
 }
 
-// A call that takes no words.
-fn alone(rest: &[u8], step: Step) -> Option<Step>
-    ensures { result ≡ Spec.alone (words rest.now) step }
+// A call that takes no words, on this list.
+fn only(list: Handed, call: Call, words: &mut Pieces<'_>) -> Option<Step>
+    ensures { result ≡ Spec.alone (pieces_left words.old) (record { list = list; call = call }) }
 {
-    if rest.is_empty() { Some(step) } else { None }
+    alone(Step { list, call }, words)
 }
 
-fn lay_patch(rest: &[u8]) -> Option<Step>
-    ensures { result ≡ Spec.lay_patch (words rest.now) }
+// The call of this name, with the words that it takes. The name stands between the bytes and the call, since
+// the definition of a line speaks of each apart; the match is the one place that says what a call takes.
+fn by_name(name: Name, words: &mut Pieces<'_>) -> Option<Step>
+    ensures { result ≡ Spec.by_name name (pieces_left words.old) }
 {
-    let (patch, rest) = number(rest)?;
-    let (reading, rest) = float(rest)?;
-    let (curve, rest) = number(rest)?;
-    on_list(
-        rest,
-        Call::LayPatch {
-            patch: patch as usize,
-            reading,
-            curve,
+    let call = match name {
+        Name::Spread => return only(list_of(next(words)?), Call::Spread, words),
+        Name::Finish => return only(Handed::Own, Call::Finish, words),
+        Name::Reopen => return only(Handed::Own, Call::Reopen, words),
+        Name::SetCurve => Call::SetCurve {
+            curve: next(words)?,
+            exponent: next(words)?,
         },
-    )
-}
-
-fn spread(rest: &[u8]) -> Option<Step>
-    ensures { result ≡ Spec.spread (words rest.now) }
-{
-    let (cells, rest) = number(rest)?;
-    alone(
-        rest,
-        Step {
-            list: list_of(cells),
-            call: Call::Spread,
+        Name::DropCurve => Call::DropCurve {
+            curve: next(words)?,
         },
-    )
-}
-
-fn set_curve(rest: &[u8]) -> Option<Step>
-    ensures { result ≡ Spec.set_curve (words rest.now) }
-{
-    let (curve, rest) = number(rest)?;
-    let (exponent, rest) = float(rest)?;
-    on_list(rest, Call::SetCurve { curve, exponent })
-}
-
-fn drop_curve(rest: &[u8]) -> Option<Step>
-    ensures { result ≡ Spec.drop_curve (words rest.now) }
-{
-    let (curve, rest) = number(rest)?;
-    on_list(rest, Call::DropCurve { curve })
-}
-
-fn change_reading(rest: &[u8]) -> Option<Step>
-    ensures { result ≡ Spec.change_reading (words rest.now) }
-{
-    let (patch, rest) = number(rest)?;
-    let (reading, rest) = float(rest)?;
-    on_list(
-        rest,
-        Call::ChangeReading {
-            patch: patch as usize,
-            reading,
+        Name::LayPatch => Call::LayPatch {
+            patch: next(words)?,
+            reading: next(words)?,
+            curve: next(words)?,
         },
-    )
-}
-
-fn move_patch(rest: &[u8]) -> Option<Step>
-    ensures { result ≡ Spec.move_patch (words rest.now) }
-{
-    let (patch, rest) = number(rest)?;
-    let (curve, rest) = number(rest)?;
-    on_list(
-        rest,
-        Call::MovePatch {
-            patch: patch as usize,
-            curve,
+        Name::ChangeReading => Call::ChangeReading {
+            patch: next(words)?,
+            reading: next(words)?,
         },
-    )
-}
-
-fn lift_patch(rest: &[u8]) -> Option<Step>
-    ensures { result ≡ Spec.lift_patch (words rest.now) }
-{
-    let (patch, rest) = number(rest)?;
-    on_list(
-        rest,
-        Call::LiftPatch {
-            patch: patch as usize,
+        Name::MovePatch => Call::MovePatch {
+            patch: next(words)?,
+            curve: next(words)?,
         },
-    )
-}
-
-fn read_patch(rest: &[u8]) -> Option<Step>
-    ensures { result ≡ Spec.read_patch (words rest.now) }
-{
-    let (patch, rest) = number(rest)?;
-    on_list(
-        rest,
-        Call::ReadPatch {
-            patch: patch as usize,
+        Name::LiftPatch => Call::LiftPatch {
+            patch: next(words)?,
         },
-    )
-}
-
-// The call of this name, if `rest` has what it takes.
-fn by_name(name: Name, rest: &[u8]) -> Option<Step>
-    ensures { result ≡ Spec.by_name name (words rest.now) }
-{
-    match name {
-        Name::Spread => spread(rest),
-        Name::SetCurve => set_curve(rest),
-        Name::DropCurve => drop_curve(rest),
-        Name::LayPatch => lay_patch(rest),
-        Name::ChangeReading => change_reading(rest),
-        Name::MovePatch => move_patch(rest),
-        Name::LiftPatch => lift_patch(rest),
-        Name::ReadPatch => read_patch(rest),
-        Name::Finish => alone(
-            rest,
-            Step {
-                list: Handed::Own,
-                call: Call::Finish,
-            },
-        ),
-        Name::Reopen => alone(
-            rest,
-            Step {
-                list: Handed::Own,
-                call: Call::Reopen,
-            },
-        ),
-    }
+        Name::ReadPatch => Call::ReadPatch {
+            patch: next(words)?,
+        },
+    };
+    on_list(call, words)
 }
 
 // The call of a line, if it is one.
+#[tactic(auto, unfolding(crate::specs::Step::step))]
 pub(crate) fn read_step(line: &[u8]) -> Option<Step>
     ensures { result ≡ Spec.step line.now }
 {
-    let (word, rest) = first_piece(b' ', line)?;
-    by_name(read_name(word)?, rest)
+    let mut words = words(line);
+    by_name(next(&mut words)?, &mut words)
 }

@@ -1,11 +1,11 @@
-use Rattle.std.proofs.Common.{vec_items}
-use Rattle.text.specs.Pieces.{lines}
-use Rattle.striptext.proofs.session.Lines.{read_more}
+use Rattle.std.proofs.Common.{rules}
+use Rattle.std.proofs.lemmas.Iterator.{YieldsList-from_map, items_from_collect}
+use Rattle.std.proofs.lemmas.Iterator.Consumers.{YieldsList-from_first}
+use Rattle.striptext.specs.Step.{step}
+use Rattle.text.specs.Pieces.{lines, pieces_left}
 use Rattle.striptext.proofs.session.read_lines.Goals as goal
 
-pub loop-line-preserved : goal.loop-line-preserved
-loop-line-preserved c =
-    let more = read_more _ (lines c.in-Some.after.now) _ (vec_items c.loop-line.read) _ c.in-Some.ensures.cut c.loop-line.invariant in
-    let read = c.read_step.ensures in
-    let put = c.in_ok-push.ensures.items in
-    cc
+pub returns : goal.returns
+returns c =
+    items_from_collect _ c.collect.ensures.ran
+    (YieldsList-from_map _ step (YieldsList-from_first (λ x. x.now) pieces_left (lines c.args.text.now) cc) c.map.ensures.closure (λ x r q k. search rules))

@@ -1,2 +1,0 @@
--- What the proofs of src/step.rt use.
-pub mod Laws
