@@ -2,54 +2,78 @@
 // A line is three bit patterns in hexadecimal: x, y and the expected power.
 #![tactic(auto)]
 
+ghost use Rattle.std.specs.Prelude.{◌≡◌, from_bits};
+ghost use Rattle.std.specs.Float.{binary32};
+ghost use Rattle.std.specs.Float.Ieee.{to_bits};
+ghost use Rattle.power.specs.Powf.{power};
+
 use power::backend::PowfBackend;
 use power::powf::f_powf;
 use std::io;
 use std::io::{BufRead, BufReader};
+use std::num::{f32_from_bits_with_nan, f32_to_bits_with_nan};
+use std::str::FromStr;
+use tally::Tally;
 
 #[derive(Clone, Copy)]
-struct Case {
-    x: u32,
-    y: u32,
-    expected: u32,
+pub struct Case {
+    pub x: u32,
+    pub y: u32,
+    pub expected: u32,
 }
 
-fn pattern(word: Option<&str>) -> Option<u32> {
-    u32::from_str_radix(word?, 16).ok()
+// A line of the list.
+#[derive(Clone, Copy)]
+struct Line(Case);
+
+// A line that is no case.
+#[derive(Clone, Copy, Debug)]
+struct NoCase;
+
+fn pattern(word: Option<&str>) -> Result<u32, NoCase> {
+    u32::from_str_radix(word.ok_or(NoCase)?, 16).map_err(|_| NoCase)
 }
 
-fn parse(line: &str) -> Option<Case> {
-    let mut words = line.split_whitespace();
-    let x = pattern(words.next())?;
-    let y = pattern(words.next())?;
-    let expected = pattern(words.next())?;
-    Some(Case { x, y, expected })
+impl FromStr for Line {
+    type Err = NoCase;
+
+    fn from_str(line: &str) -> Result<Line, NoCase> {
+        let mut words = line.split_whitespace();
+        let x = pattern(words.next())?;
+        let y = pattern(words.next())?;
+        let expected = pattern(words.next())?;
+        Ok(Line(Case { x, y, expected }))
+    }
 }
 
-fn power_of<B: PowfBackend>(case: Case, backend: &B) -> u32 {
-    let x = std::num::f32_from_bits_with_nan(case.x);
-    let y = std::num::f32_from_bits_with_nan(case.y);
-    std::num::f32_to_bits_with_nan(f_powf(x, y, backend))
+impl Case {
+    // The pattern of the power, from those of x and y.
+    pub fn power<B: PowfBackend>(self, backend: &B) -> u32
+        ensures { result ≡ to_bits binary32 (power (B.PowfBackend.meaning backend.now) (from_bits binary32 self.x) (from_bits binary32 self.y)) }
+    {
+        let x = f32_from_bits_with_nan(self.x);
+        let y = f32_from_bits_with_nan(self.y);
+        f32_to_bits_with_nan(f_powf(x, y, backend))
+    }
 }
 
 // Reads the list from standard input; prints each difference, and the two counts last.
-pub fn run<B: PowfBackend>(rt: &HostRuntime, backend: &B) -> io::Result<()> {
-    let mut answers = 0u64;
-    let mut differences = 0u64;
-    for line in BufReader::new(rt.alloc(), rt.stdin())?.lines(rt.alloc()) {
+pub fn run<R: Input + AllocGlobal + Print, B: PowfBackend>(rt: &R, backend: &B) -> io::Result<()> {
+    let mut tally = Tally::new("answers");
+    for line in BufReader::new(rt.alloc(), rt.reader())?.lines(rt.alloc()) {
         let line = line?;
-        answers = answers.saturating_add(1);
-        let Some(case) = parse(line.as_str()) else {
-            differences = differences.saturating_add(1);
-            println!(rt; "line {answers} is no case")?;
+        let Ok(Line(case)) = line.parse::<Line>() else {
+            tally.count(false);
+            let number = tally.compared;
+            println!(rt; "line {number} is no case")?;
             continue;
         };
-        let got = power_of(case, backend);
+        let got = case.power(backend);
+        tally.count(got == case.expected);
         if got != case.expected {
-            differences = differences.saturating_add(1);
             let Case { x, y, expected } = case;
             println!(rt; "{x:08x} {y:08x}: {got:08x}, expected {expected:08x}")?;
         }
     }
-    println!(rt; "{answers} answers, {differences} differences")
+    println!(rt; "{tally}")
 }

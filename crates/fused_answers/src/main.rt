@@ -4,6 +4,7 @@
 use power::fused::Fused;
 use std::io;
 
+// All of it is `answers::run`, on this backend.
 fn main(rt: HostRuntime) -> io::Result<()> {
     answers::run(&rt, &Fused {})
 }

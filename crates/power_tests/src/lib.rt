@@ -4,23 +4,17 @@
 
 #[cfg(test)]
 mod tests {
-    use power::backend::PowfBackend;
+    use answers::Case;
     use power::fused::Fused;
     use power::limits::limits;
     use power::portable::Portable;
-    use power::powf::f_powf;
     use std::process::Abort;
-
-    fn power_bits<B: PowfBackend>(x: u32, y: u32, backend: &B) -> u32 {
-        let x = std::num::f32_from_bits_with_nan(x);
-        let y = std::num::f32_from_bits_with_nan(y);
-        std::num::f32_to_bits_with_nan(f_powf(x, y, backend))
-    }
 
     // The same answer on both backends.
     fn both(rt: &impl Abort, x: u32, y: u32, expected: u32) {
-        assert_eq!(rt; power_bits(x, y, &Portable {}), expected);
-        assert_eq!(rt; power_bits(x, y, &Fused {}), expected);
+        let case = Case { x, y, expected };
+        assert_eq!(rt; case.power(&Portable {}), expected);
+        assert_eq!(rt; case.power(&Fused {}), expected);
     }
 
     // The definitions are proved to give these on the portable backend; here the compiled code is
@@ -79,23 +73,28 @@ mod tests {
     // A tie with a fractional exponent, where the reference answers the odd neighbour.
     #[test]
     fn fractional_tie(rt: HostRuntime) {
-        assert_eq!(rt;
-            power_bits(0x0d61_7810, 0x3fa0_0000, &Portable {}),
-            0x00da_6c4f
-        );
+        let case = Case {
+            x: 0x0d61_7810,
+            y: 0x3fa0_0000,
+            expected: 0x00da_6c4f,
+        };
+        assert_eq!(rt; case.power(&Portable {}), case.expected);
     }
 
     // A tie at which the two builds of the reference differ.
     #[test]
     fn builds_differ(rt: HostRuntime) {
-        assert_eq!(rt;
-            power_bits(0x40bc_e880, 0x3fc0_0000, &Portable {}),
-            0x4165_7e74
-        );
-        assert_eq!(rt;
-            power_bits(0x40bc_e880, 0x3fc0_0000, &Fused {}),
-            0x4165_7e73
-        );
+        let portable = Case {
+            x: 0x40bc_e880,
+            y: 0x3fc0_0000,
+            expected: 0x4165_7e74,
+        };
+        let fused = Case {
+            expected: 0x4165_7e73,
+            ..portable
+        };
+        assert_eq!(rt; portable.power(&Portable {}), portable.expected);
+        assert_eq!(rt; fused.power(&Fused {}), fused.expected);
     }
 
     // The fallback of a negative base is that of its magnitude, negated.

@@ -7,33 +7,38 @@ use power::portable::Portable;
 use runs::answer::Answer;
 use runs::example::{worked_lists, worked_run};
 use runs::run::replay;
-use std::io;
+use std::{fmt, io};
+use strip::patch::View;
 
-fn print(rt: &HostRuntime, answer: Answer) -> io::Result<()> {
-    match answer {
-        Answer::NotAllowed => println!(rt; "not allowed"),
-        Answer::Refused(refusal) => {
-            let number = refusal.number();
-            println!(rt; "refused {number}")
+// An answer as it is printed here: with what a number is, and floats in decimals.
+#[derive(Clone, Copy)]
+struct Line(Answer);
+
+impl fmt::Display for Line {
+    fn fmt<W: fmt::Write>(&self, f: &mut fmt::Formatter<W>) -> fmt::Result {
+        match self.0 {
+            Answer::NotAllowed => write!(f, "not allowed"),
+            Answer::Refused(refusal) => write!(f, "{refusal}"),
+            Answer::Count(n) => write!(f, "count {n}"),
+            Answer::Value(x) => write!(f, "value {x}"),
+            Answer::Patch(
+                View {
+                    reading,
+                    curve,
+                    shown,
+                },
+            ) => write!(f, "reading {reading} curve {curve} shown {shown}"),
+            Answer::Done => write!(f, "done"),
         }
-        Answer::Count(n) => println!(rt; "count {n}"),
-        Answer::Value(x) => println!(rt; "value {x}"),
-        Answer::Patch(view) => {
-            let reading = view.reading;
-            let curve = view.curve;
-            let shown = view.shown;
-            println!(rt; "reading {reading} curve {curve} shown {shown}")
-        }
-        Answer::Done => println!(rt; "done"),
     }
 }
 
 fn run<B: PowfBackend + Drop>(rt: &HostRuntime, backend: B) -> io::Result<()> {
     let steps = worked_run(&backend);
     let mut lists = worked_lists(rt.alloc())?;
-    let done = replay(rt.alloc(), backend, lists.as_mut_slice(), &steps)?;
-    for answer in done.answers.as_slice() {
-        print(rt, *answer)?;
+    let done = replay(rt.alloc(), backend, &mut lists, &steps)?;
+    for answer in &done.answers {
+        println!(rt; "{}", Line(*answer))?;
     }
     let own = done.own;
     println!(rt; "own list {own}")
