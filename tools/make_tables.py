@@ -44,7 +44,10 @@ def item(e):
 
 
 def code(tables):
-    out = ['// The tables, as bit patterns of f64, from the published crate.']
+    out = [
+        '// The tables, as bit patterns of f64, from the published crate. Those that one index reads stay apart as',
+        '// they do there, so that each can be set beside its source.',
+    ]
     for name, _, _, about in TABLES:
         rows = tables[name]
         width = len(rows[0])
