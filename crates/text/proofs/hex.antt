@@ -1,2 +1,2 @@
 -- What the proofs of src/hex.rt use.
-pub mod Padded
+pub mod Ascii
