@@ -1,7 +1,9 @@
 // A list of cells, as one call works on it.
 ghost use Rattle.std.specs.Prelude.{◌≡◌};
+ghost use Rattle.std.specs.List.{list_any};
 ghost use Rattle.power.specs.Powf.{power};
 ghost use Rattle.strip.specs.Cells as Cells;
+ghost use Rattle.strip.specs.Patch.{under};
 
 use crate::curve::Numbered;
 use crate::patch::Patch;
@@ -14,11 +16,11 @@ pub(crate) fn clear(cells: &mut [Patch])
     cells.fill(Patch::empty());
 }
 
-// How many filled patches are under a curve.
-pub(crate) fn users(cells: &[Patch], curve: u32) -> usize
-    ensures { result ≡ Cells.users curve cells.now }
+// Whether a filled patch is under a curve.
+pub(crate) fn in_use(cells: &[Patch], curve: u32) -> bool
+    ensures { result ≡ list_any (under curve) cells.now }
 {
-    cells.iter().filter(|cell| cell.is_under(curve)).count()
+    cells.iter().any(|cell| cell.is_under(curve))
 }
 
 // Reworks the filled patches under a curve that was set, and answers how many they are.

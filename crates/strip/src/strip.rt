@@ -7,7 +7,7 @@ ghost use Rattle.strip.specs.Refusal as Table;
 ghost use Rattle.strip.specs.Strip as Calls;
 ghost use Rattle.strip.specs.declared.call.Call.TheVariants.{Spread, SetCurve, DropCurve, LayPatch, ChangeReading, MovePatch, LiftPatch, ReadPatch};
 
-use crate::cells::{clear, rework, users};
+use crate::cells::{clear, in_use, rework};
 use crate::curve::{Curve, Curves, Numbered};
 use crate::patch::{Patch, View};
 use crate::refusal::Refusal;
@@ -138,13 +138,14 @@ impl<B: PowfBackend> OpenStrip<B> {
     }
 
     // Unsets a curve that no filled patch is under; answers its exponent.
+    #[tactic(auto, using(crate::proofs::cells::Users::some_counted))]
     pub fn drop_curve(&mut self, cells: &[Patch], curve: u32) -> Result<f32, Refusal>
         ensures answer { result ≡ Table.answered (Calls.refusal (DropCurve curve) self.old.strip cells.now) (Curving.counted (Calls.curve_of self.old.strip curve)).exponent }
         ensures strip { self.new.strip ≡ Calls.strip_after (DropCurve curve) self.old.strip cells.now }
     {
         self.strip.check_cells(cells)?;
         let set = self.strip.curve_set(curve)?;
-        if users(cells, curve) > 0 {
+        if in_use(cells, curve) {
             return Err(Refusal::CurveInUse);
         }
         self.strip.curves.put(curve, None);
