@@ -128,7 +128,7 @@ module _ (a b c : Float) (Z W : ℤ) (tc : T (fits binary64 c)) (vc : Value bina
       go false false e f = absurd (true≢false (sym f))
 
 -- the result is a b + c rounded once, for whatever a, b and c are in units
-fused-once : (a b c : Float) → T (fits binary64 a) → T (fits binary64 b) → T (fits binary64 c) → Moderate a → Moderate b → Bounded 2000 c
+pub fused-once : (a b c : Float) → T (fits binary64 a) → T (fits binary64 b) → T (fits binary64 c) → Moderate a → Moderate b → Bounded 2000 c
     → (X Y Z S : ℤ) → Value binary64 a X → Value binary64 b Y → Value binary64 c Z → UnitsOfSum X Y Z S → Value binary64 (fused_sum a b c) (roundℤ 53 S)
 fused-once a b c ta tb tc ma mb bc X Y Z S va vb vc e =
     let p = exact-mult a b ta tb ma mb X Y va vb in

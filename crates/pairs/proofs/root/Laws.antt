@@ -57,16 +57,16 @@ module _ (n q w : ℕ) (W : 0 < w) where
   abbrev scaled : ℕ
   scaled = n * (2 * w * (2 * w))
 
-  root-from : (a : ℕ) → a * a ≤ n → a * (4 * w) ≤ root_twice scaled
+  pub root-from : (a : ℕ) → a * a ≤ n → a * (4 * w) ≤ root_twice scaled
   root-from a h = omega (arith, twice-le scaled (a * (2 * w)) (omega (arith, mul-le-mul_right (w * w) h)))
 
-  root-upto : (a : ℕ) → n < a * a → root_twice scaled < a * (4 * w)
+  pub root-upto : (a : ℕ) → n < a * a → root_twice scaled < a * (4 * w)
   root-upto a h = omega (arith, twice-lt scaled (a * (2 * w)) (omega (arith, mul-lt-mul_of_pos_right h (mul-pos W W))))
 
-  root-below-half : n ≤ q * q + q → root_twice scaled < q * (4 * w) + 2 * w
+  pub root-below-half : n ≤ q * q + q → root_twice scaled < q * (4 * w) + 2 * w
   root-below-half h = omega (arith, twice-lt scaled (2 * q * w + w) (omega (arith, mul-le-mul_right (w * w) h, mul-pos W W)))
 
-  root-above-half : 0 < q → q * q < n + q → q * (4 * w) < root_twice scaled + 2 * w
+  pub root-above-half : 0 < q → q * q < n + q → q * (4 * w) < root_twice scaled + 2 * w
   root-above-half Q h = go (q - 1) (omega arith)
     where
       go : (p : ℕ) → q ≡ p + 1 → q * (4 * w) < root_twice scaled + 2 * w

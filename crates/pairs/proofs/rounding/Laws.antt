@@ -76,7 +76,7 @@ by_sign b h = grind arith
 sign : (b : ℕ) → b < 2 ^ 64 → bit_and b (2 ^ 63) ≡ cond (leb (2 ^ 63) b) (2 ^ 63) 0
 sign b h = and_high b 1 63 ∙ by_sign b h
 
-signed : (b z : ℕ) → b < 2 ^ 64 → z < 2 ^ 63 → bit_or (bit_and b (2 ^ 63)) z ≡ cond (leb (2 ^ 63) b) (2 ^ 63) 0 + z
+pub signed : (b z : ℕ) → b < 2 ^ 64 → z < 2 ^ 63 → bit_or (bit_and b (2 ^ 63)) z ≡ cond (leb (2 ^ 63) b) (2 ^ 63) 0 + z
 signed b z h l = ap (λ (a : ℕ). bit_or a z) (and_high b 1 63) ∙ or_shifted (b / 2 ^ 63 % 2 ^ 1) 63 z l ∙ ap (λ (a : ℕ). a + z) (by_sign b h)
 
 -- the ones below 2^(i + 1), shifted out of 52, and the one at 2^i out of 51
